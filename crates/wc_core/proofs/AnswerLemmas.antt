@@ -29,7 +29,8 @@ use Rattle.wc_board.specs.BoardView.{BoardView, NoStrayTouches}
 use Rattle.wc_board.specs.Connections.{connection_link, client_of, is_open, is_open_at, session_at, left_at, new_connection}
 use Rattle.wc_board.specs.Pushes.{pushed_connection}
 use Rattle.wc_board.specs.Served.{told_connection, ConnectionsKept, ConnectionsServed}
-use Rattle.wc_board.specs.Told.{Told, AreTold, AreTouched}
+use Rattle.wc_board.specs.Told.{AreTold, AreTouched}
+use Rattle.wc_core.specs.State.{Beside}
 use Rattle.wc_board.proofs.PushEach.{open_number, number_more, not_more, none_left, all_is}
 use Rattle.wc_text.specs.declared.names.Cause.TheVariants.{Surplus}
 use Rattle.wc_servers.specs.Seats.{ServersView, used_up}
@@ -282,7 +283,7 @@ push-starved old board new world kept rows counts rises =
     let P : CoreView → Type 0 = λ new. Does old new push_step in
     subst P (sym counts) (push-by old board (min (old.starved + 1) (2 ^ 64 - 1)) world kept rows (inr (refl, omega (arith, count, rises))))
 
-pub came-by : (told : Told) (old : CoreView) (board : BoardView) (servers : ServersView) (link : LinkId) (nonce : List ℕ) → length (filter (λ connection. is_open connection) old.connections) < client_limit old.options → servers ≡ used_up link.0 old.servers
+pub came-by : (told : Beside) (old : CoreView) (board : BoardView) (servers : ServersView) (link : LinkId) (nonce : List ℕ) → length (filter (λ connection. is_open connection) old.connections) < client_limit old.options → servers ≡ used_up link.0 old.servers
     → board ≡ record (board_of old) { connections = old.connections ++ new_connection old.options link nonce ∷ [] } → AdmitsUnlessStarved told link.0 old (with_board (record old { servers = servers }) board old.starved) None (arrival_step (state_of old told) link.0 nonce)
 came-by told old board servers link nonce few used e =
     let P : BoardView → Type 0 = λ b. AdmitsUnlessStarved told link.0 old (with_board (record old { servers = servers }) b old.starved) None (arrival_step (state_of old told) link.0 nonce) in
@@ -290,7 +291,7 @@ came-by told old board servers link nonce few used e =
     let Q : ServersView → Type 0 = λ servers. AdmitsUnlessStarved told link.0 old (with_board (record old { servers = servers }) came_to old.starved) None (arrival_step (state_of old told) link.0 nonce) in
     subst P (sym e) (subst Q (sym used) (came told old link nonce few))
 
-pub surplus-by : (told : Told) (old : CoreView) (servers : ServersView) (link : LinkId) (nonce : List ℕ) → client_limit old.options ≤ length (filter (λ connection. is_open connection) old.connections) → servers ≡ used_up link.0 old.servers
+pub surplus-by : (told : Beside) (old : CoreView) (servers : ServersView) (link : LinkId) (nonce : List ℕ) → client_limit old.options ≤ length (filter (λ connection. is_open connection) old.connections) → servers ≡ used_up link.0 old.servers
     → AdmitsUnlessStarved told link.0 old (record old { servers = servers }) (Some Surplus) (arrival_step (state_of old told) link.0 nonce)
 surplus-by told old servers link nonce full used =
     let Q : ServersView → Type 0 = λ servers. AdmitsUnlessStarved told link.0 old (record old { servers = servers }) (Some Surplus) (arrival_step (state_of old told) link.0 nonce) in

@@ -15,7 +15,7 @@ use Rattle.wc_irc_texts.specs.Texts.{in_one_line}
 use Rattle.wc_irc_words.specs.Typed.{ServerCommand, asked_of}
 use Rattle.wc_irc.specs.Servers.{ServerState}
 use Rattle.wc_irc.specs.Start.{start_of}
-use Rattle.wc_board.specs.Told.{Told}
+use Rattle.wc_core.specs.State.{Beside}
 use Rattle.wc_servers.specs.Seats.{ServerSeat}
 use Rattle.wc_core.specs.CoreView.{CoreView}
 use Rattle.wc_core.specs.Resolved.{option_text}
@@ -23,7 +23,7 @@ use Rattle.wc_core.specs.State.{State, Stepped}
 use Rattle.wc_core.specs.Changing.{no_step, then_does}
 use Rattle.wc_core.specs.ServerSteps.{say_step, server_of}
 use Rattle.wc_core.specs.ServerTyped.{is_linked, settings_if, settings_step, delete_step, disconnect_step_if, meant_server, disconnect_step, on_buffer_step, served_step, served_line_step, open_step, seat_step, begin_step, connect_step_if, connect_step, connects_itself, connect_own_step, connect_each_step, server_names, connect_all_step}
-use Rattle.wc_core.specs.Served.{state_of, Does}
+use Rattle.wc_core.specs.Served.{state_of, Does, plain_beside}
 use Rattle.wc_core.proofs.ChainLemmas.{Does-then, Does-cut, Does-as}
 use Rattle.wc_core.proofs.OptionLemmas.{options-are}
 use Rattle.wc_core.proofs.ServerCloses.{settings-closes, opens-closes, connects_own-closes, connects_each-closes}
@@ -36,7 +36,7 @@ pub settings-more : (old new : CoreView) (options : OptionsValue) (setting : Pai
 settings-more old new options setting settings accepted e done =
     let next : State → Stepped = λ state. settings_step state settings in
     let first : State → Stepped = λ state. no_step (record state { options = options }) in
-    let F : Told → OptionsValue → Stepped = λ told options. next (record (state_of old told) { options = options }) in
+    let F : Beside → OptionsValue → Stepped = λ told options. next (record (state_of old told) { options = options }) in
     Does-as old new (λ state. then_does (first state) next) (λ state. settings_step state (setting ∷ settings)) (λ told. ap (F told) e ∙ sym (ap (settings_if (state_of old told) setting next) accepted))
     (Does-then old (record old { options = options }) new first next (λ j state. refl) (λ j state. settings-closes j state settings) (λ told. options-are told old options) done)
 
@@ -70,7 +70,7 @@ linked_found f (Some x) found e = ap is_some e
 
 -- ---- connections
 
-pub connects-as : (old new : CoreView) (name : List ℕ) (linked : Bool) (o : Option (List ℕ)) → linked ≡ is_linked (state_of old old.world.nicks) name → o ≡ connect_refusal old.options linked name → Does old new (λ state. connect_step_if state name o)
+pub connects-as : (old new : CoreView) (name : List ℕ) (linked : Bool) (o : Option (List ℕ)) → linked ≡ is_linked (state_of old (plain_beside old)) name → o ≡ connect_refusal old.options linked name → Does old new (λ state. connect_step_if state name o)
     → Does old new (λ state. connect_step state name)
 connects-as old new name linked o there e done =
     Does-as old new (λ state. connect_step_if state name o) (λ state. connect_step state name) (λ told. ap (connect_step_if (state_of old told) name) (e ∙ ap (λ b. connect_refusal old.options b name) there)) done
@@ -121,20 +121,20 @@ pub serves-as : (old new : CoreView) (buffer : Handle) (line text : List ℕ) (o
 serves-as old new buffer line text o e done = Does-as old new (λ state. served_step state buffer line text o) (λ state. served_line_step state buffer line text) (λ told. ap (served_step (state_of old told) buffer line text) e) done
 
 -- a server is deleted, or why it is not is told
-pub deletes-as : (old new : CoreView) (name : List ℕ) (linked : Bool) (o : Option (List ℕ)) → linked ≡ is_linked (state_of old old.world.nicks) name → o ≡ delete_refusal old.options linked name → Does old new (λ state. delete_step state name o)
+pub deletes-as : (old new : CoreView) (name : List ℕ) (linked : Bool) (o : Option (List ℕ)) → linked ≡ is_linked (state_of old (plain_beside old)) name → o ≡ delete_refusal old.options linked name → Does old new (λ state. delete_step state name o)
     → Does old new (λ state. delete_step state name (delete_refusal state.options (is_linked state name) name))
 deletes-as old new name linked o there e done =
     Does-as old new (λ state. delete_step state name o) (λ state. delete_step state name (delete_refusal state.options (is_linked state name) name)) (λ told. ap (delete_step (state_of old told) name) (e ∙ ap (λ b. delete_refusal old.options b name) there)) done
 
 pub deletes-free : (old : CoreView) (options : OptionsValue) (name : List ℕ) → options ≡ record old.options { servers = without name old.options.servers } → Does old (record old { options = options }) (λ state. delete_step state name None)
 deletes-free old options name e =
-    let F : Told → OptionsValue → Stepped = λ told options. no_step (record (state_of old told) { options = options }) in
+    let F : Beside → OptionsValue → Stepped = λ told options. no_step (record (state_of old told) { options = options }) in
     Does-as old (record old { options = options }) (λ state. no_step (record state { options = options })) (λ state. delete_step state name None) (λ told. ap (F told) e) (λ told. options-are told old options)
 
 -- a connection is ended, or why it is not is told
-pub disconnects-as : (old new : CoreView) (buffer : Handle) (name : Option (List ℕ)) (o : Option ServerSeat) → o ≡ meant_server (state_of old old.world.nicks) buffer name → Does old new (λ state. disconnect_step_if state name o) → Does old new (λ state. disconnect_step state buffer name)
+pub disconnects-as : (old new : CoreView) (buffer : Handle) (name : Option (List ℕ)) (o : Option ServerSeat) → o ≡ meant_server (state_of old (plain_beside old)) buffer name → Does old new (λ state. disconnect_step_if state name o) → Does old new (λ state. disconnect_step state buffer name)
 disconnects-as old new buffer name o e done = Does-as old new (λ state. disconnect_step_if state name o) (λ state. disconnect_step state buffer name) (λ told. ap (disconnect_step_if (state_of old told) name) e) done
 
 -- what is typed for the server of a buffer
-pub typed-as : (old new : CoreView) (buffer : Handle) (line : List ℕ) (o : Option ServerSeat) → o ≡ server_of (state_of old old.world.nicks) buffer → Does old new (λ state. on_buffer_step state buffer line o) → Does old new (λ state. on_buffer_step state buffer line (server_of state buffer))
+pub typed-as : (old new : CoreView) (buffer : Handle) (line : List ℕ) (o : Option ServerSeat) → o ≡ server_of (state_of old (plain_beside old)) buffer → Does old new (λ state. on_buffer_step state buffer line o) → Does old new (λ state. on_buffer_step state buffer line (server_of state buffer))
 typed-as old new buffer line o e done = Does-as old new (λ state. on_buffer_step state buffer line o) (λ state. on_buffer_step state buffer line (server_of state buffer)) (λ told. ap (on_buffer_step (state_of old told) buffer line) e) done

@@ -1,5 +1,5 @@
 -- Whom the steps close.
-use Rattle.std.proofs.Common.{◌≡◌, ℕ, Bool, true, false, cond, eqb, ◌⊎◌, inl, inr, List, [], ◌∷◌, Option, Some, None, refl, ap, sym, ◌∙◌, not}
+use Rattle.std.proofs.Common.{◌≡◌, ℕ, zero, suc, Bool, true, false, cond, eqb, ◌⊎◌, inl, inr, List, [], ◌∷◌, Option, Some, None, refl, ap, sym, ◌∙◌, not}
 use Rattle.wc_text.specs.declared.names.Cause.{Cause}
 use Rattle.wc_text.specs.declared.names.Cause.TheVariants.{NoMemory}
 use Rattle.std.specs.List.{flat_map}
@@ -19,9 +19,9 @@ use Rattle.wc_core.specs.Resolved.{Effect, Stays, Ends as ResolvedEnds, Tells, A
 use Rattle.wc_options.specs.Options.{refusal_of, value_of}
 use Rattle.wc_options.specs.declared.refusal.SetRefused.{SetRefused}
 use Rattle.wc_options.specs.declared.refusal.SetRefused.TheVariants.{UnknownOption}
-use Rattle.wc_core.specs.Typed.{TypedCommand, typed_line, lines_of_text}
+use Rattle.wc_core.specs.Typed.{TypedCommand, typed_line, lines_of_text, evaluation_of}
 use Rattle.wc_core.specs.State.{State, has_end}
-use Rattle.wc_core.specs.Step.{set_step_if, unset_step_if, client_link, pushed_to, push_at, pushes_of, push_step, no_step, then_does, sends, ask_step, effect_step, typed_step, other_of, input_by, input_step, is_quit, lines_step, start_step, outcome_step, answer_step, loss_step, core_buffer, commands_step}
+use Rattle.wc_core.specs.Step.{set_step_if, unset_step_if, client_link, pushed_to, push_at, pushes_of, push_step, no_step, then_does, sends, ask_step, effect_step, typed_step, other_of, input_by, input_step, lines_step, start_step, outcome_step, answer_step, loss_step, core_buffer, commands_step, plain_step, Evaluation, evaluated_by, input_with, eval_step, evaluation_at, input_at, run_value}
 use Rattle.wc_core.specs.CoreView.{CoreView}
 use Rattle.wc_core.specs.Served.{state_of, or_else, close_of, LeavesBy}
 use Rattle.wc_board.specs.Served.{StaysOrStarves}
@@ -33,6 +33,11 @@ use Rattle.wc_core.proofs.ChangeCloses.{closes_none-if, then-closes, tells-close
 use Rattle.wc_core.proofs.ServerCloses.{quits-closes, before-closes, connects_all-closes, serves-closes}
 use Rattle.wc_core.proofs.DidLemmas.{close_of-append, ClosesLater}
 use Rattle.wc_core.proofs.ConnectionLemmas.{close-sends}
+use Rattle.wc_core.specs.State.{beside}
+use Rattle.wc_core.specs.Evaluated.{value_at, holds_at, answer_text, printed_value}
+use Rattle.wc_core.specs.declared.typed_eval.EvalUse.{EvalUse}
+use Rattle.wc_core.specs.declared.typed_eval.EvalUse.TheVariants as eval
+use Rattle.std.specs.Str.{is_utf8}
 
 -- ---- pushes
 
@@ -77,15 +82,45 @@ input_by-closes : (j : ℕ) (state : State) (buffer : Handle) (line : List ℕ) 
 input_by-closes j state buffer line None = does-closes j state buffer (typed_line line)
 input_by-closes j state buffer line (Some text) = serves-closes j state buffer line text (asked_of (in_one_line line))
 
+plain-closes : (j : ℕ) (state : State) (buffer : Handle) (line : List ℕ) → close_of j (plain_step state buffer line).acts ≡ None
+plain-closes j state buffer line = input_by-closes j state buffer line (other_of (typed_line line))
+
+-- nor does what is evaluated close anyone
+abbrev ClosesNobody : Evaluation → Type 0
+ClosesNobody evaluate = (j : ℕ) (state : State) (buffer : Handle) (usage : EvalUse) (text : List ℕ) → close_of j (evaluate state buffer usage text).acts ≡ None
+
+evaluated-closes : (evaluate : Evaluation) → ClosesNobody evaluate → (j : ℕ) (state : State) (buffer : Handle) (line : List ℕ) (o : Option (EvalUse × List ℕ)) → close_of j (evaluated_by evaluate state buffer line o).acts ≡ None
+evaluated-closes evaluate none j state buffer line None = plain-closes j state buffer line
+evaluated-closes evaluate none j state buffer line (Some (usage, text)) = none j state buffer usage text
+
+input_with-closes : (evaluate : Evaluation) → ClosesNobody evaluate → (j : ℕ) (state : State) (buffer : Handle) (line : List ℕ) → close_of j (input_with evaluate state buffer line).acts ≡ None
+input_with-closes evaluate none j state buffer line = evaluated-closes evaluate none j state buffer line (evaluation_of (typed_line line))
+
+eval-closes : (evaluate : Evaluation) → ClosesNobody evaluate → ClosesNobody (eval_step (input_with evaluate))
+eval-closes evaluate none j state buffer eval.Run text =
+    let value = value_at state buffer text in
+    closes_none-if j (is_utf8 value) (input_with evaluate state buffer value) (no_step state) (input_with-closes evaluate none j state buffer value) refl
+eval-closes evaluate none j state buffer eval.Print text = asks-closes j state (printed_value state.moment (value_at state buffer text))
+eval-closes evaluate none j state buffer eval.Test text = asks-closes j state (printed_value state.moment (answer_text (holds_at state buffer text)))
+
+evaluation-closes : (levels : ℕ) → ClosesNobody (evaluation_at levels)
+unfolding evaluation_at
+evaluation-closes zero = λ j state buffer usage text. refl
+evaluation-closes (suc levels) = eval-closes (evaluation_at levels) (evaluation-closes levels)
+
+pub input_at-closes : (levels j : ℕ) (state : State) (buffer : Handle) (line : List ℕ) → close_of j (input_at levels state buffer line).acts ≡ None
+input_at-closes levels j state buffer line = input_with-closes (evaluation_at levels) (evaluation-closes levels) j state buffer line
+
 pub input-closes : (j : ℕ) (state : State) (buffer : Handle) (line : List ℕ) → close_of j (input_step state buffer line).acts ≡ None
-input-closes j state buffer line = input_by-closes j state buffer line (other_of (typed_line line))
+input-closes j state buffer line = input_at-closes 32 j state buffer line
 
 pub runs-closes : (j : ℕ) (state : State) (buffer : Handle) (lines : List (List ℕ)) → close_of j (lines_step state buffer lines).acts ≡ None
 runs-closes j state buffer [] = refl
 runs-closes j state buffer (line ∷ lines) =
     let first = input_step state buffer line in
-    closes_none-if j (not (is_there buffer state.world.groups)) (no_step state) (cond (is_quit (typed_line line)) first (then_does first (λ next. lines_step next buffer lines))) refl
-    (closes_none-if j (is_quit (typed_line line)) first (then_does first (λ next. lines_step next buffer lines)) (input-closes j state buffer line)
+    let all = then_does first (λ next. lines_step next buffer lines) in
+    closes_none-if j (not (is_there buffer state.world.groups)) (no_step state) (cond (has_end first.acts) first all) refl
+    (closes_none-if j (has_end first.acts) first all (input-closes j state buffer line)
     (then-closes j first (λ next. lines_step next buffer lines) (input-closes j state buffer line) (runs-closes j first.state buffer lines)))
 
 pub commands-closes : (j : ℕ) (state : State) (commands : List (List ℕ)) → close_of j (commands_step state commands).acts ≡ None
@@ -100,11 +135,6 @@ starts-closes j state commands =
     let first = commands_step state commands in
     closes_none-if j (has_end first.acts) first (then_does first connect_all_step) (commands-closes j state commands) (then-closes j first connect_all_step (commands-closes j state commands) (connects_all-closes j first.state))
 
-pub input-later : (b : CoreView) (state : State) (buffer : Handle) (line : List ℕ) (lines : List (List ℕ)) → ClosesLater b (input_step state buffer line) (λ next. lines_step next buffer lines)
-input-later b state buffer line lines =
-    let first = input_step state buffer line in
-    record { first_none = λ j. input-closes j state buffer line; same = λ j. runs-closes j (state_of b first.state.told) buffer lines ∙ sym (runs-closes j first.state buffer lines) }
-
 follows-same : (j k : ℕ) (o : Outcome) (s t : State) → close_of j (outcome_step s k o).acts ≡ close_of j (outcome_step t k o).acts
 follows-same j k outcome.Replied s t = refl
 follows-same j k outcome.Silent s t = refl
@@ -113,7 +143,7 @@ follows-same j k (outcome.Leave why) s t = refl
 follows-same j k outcome.NoMemory s t = refl
 
 pub reply-later : (b : CoreView) (k : ℕ) (state : State) (messages : List WireMessage) (o : Outcome) → ClosesLater b (record { state = state; acts = sends k messages }) (λ next. outcome_step next k o)
-reply-later b k state messages o = record { first_none = λ j. close-sends j k messages; same = λ j. follows-same j k o (state_of b state.told) state }
+reply-later b k state messages o = record { first_none = λ j. close-sends j k messages; same = λ j. follows-same j k o (state_of b (beside state)) state }
 
 -- whom an answer closes does not hang on the state
 pub answer-closes-same : (j k : ℕ) (answer : Answer) (s t : State) → close_of j (answer_step s k answer).acts ≡ close_of j (answer_step t k answer).acts

@@ -1,5 +1,5 @@
 -- What each of the core's calls does.
-use Rattle.std.proofs.Common.{◌≡◌, cond, ◌&&◌, ℕ, ◌+◌, ◌-◌, ◌^◌, ◌<◌, ◌≤◌, true, false, List, [], ◌∷◌, ◌++◌, length, inl, inr, Option, Some, None, Bool, not, nat_eq, ◌≢◌, refl, ap, sym, subst, ◌∙◌, arith, nat_lt, min, filter, IfSome}
+use Rattle.std.proofs.Common.{◌≡◌, cond, ◌&&◌, ℕ, ◌+◌, ◌-◌, ◌^◌, ◌<◌, ◌≤◌, true, false, List, [], ◌∷◌, ◌++◌, length, inl, inr, Option, Some, None, Bool, max, not, nat_eq, ◌≢◌, refl, ap, sym, subst, ◌∙◌, arith, nat_lt, min, filter, IfSome}
 use Rattle.std.specs.Prelude.{map}
 use Rattle.std.proofs.lemmas.Bool.{false≢true}
 use Rattle.std.proofs.lemmas.Bool.Decides.{nat_tests}
@@ -14,7 +14,7 @@ use Rattle.wc_relaycmd.specs.Utf8.{RequestIsUtf8}
 use Rattle.wc_session.specs.declared.client.Client.{Client}
 use Rattle.wc_session.specs.declared.outcome.Outcome.{Outcome}
 use Rattle.wc_session.specs.declared.outcome.Outcome.TheVariants as outcome
-use Rattle.wc_session.specs.Known.{Known, new_session}
+use Rattle.wc_session.specs.Known.{Known, new_session, new_client}
 use Rattle.wc_session.specs.Reply.{Answer, reply_of}
 use Rattle.wc_session.specs.Served.{OnServed, OnNoMemory, AnswersRequest}
 use Rattle.wc_board.specs.declared.connection.Connection.{Connection}
@@ -31,18 +31,20 @@ use Rattle.wc_model.specs.Notices.{Accepted}
 use Rattle.wc_model.specs.Touches.{told_after}
 use Rattle.wc_nickdiff.specs.Held.{OfBuffer}
 use Rattle.wc_options.specs.Options.{OptionsValue}
-use Rattle.wc_core.specs.Typed.{TypedCommand, Nothing, Quits, Refused, Others, Prints, Adds, Closes, Merges, Names, Changes as TypedChanges, Sets, Unsets, Switches, Saves}
+use Rattle.wc_core.specs.Typed.{TypedCommand}
 use Rattle.wc_core.specs.Resolved.{Effect, Stays, Ends as ResolvedEnds, Tells, Asks, SetsOption, UnsetsOption, SavesOptions, switched, buffer_meant, of_meant, of_named, change_of, line_spec, effect_of, refusal_text, told_refusal}
 use Rattle.wc_core.specs.Inputs.{MakesChange, RefusesChange, push_before, AnswersRequestOf}
 use Rattle.wc_core.specs.Limits.{client_limit}
-use Rattle.wc_core.specs.State.{State, Act, Stepped}
-use Rattle.wc_core.specs.Step.{client_link, no_step, then_does, push_step, reply_step, sends, tell_all_step, change_step, change_step_if, refusal_step, ask_step_if, ask_step, effect_step, typed_step, is_quit, leave_step, loss_step, arrival_step, outcome_step, answer_step, request_step, line_step}
+use Rattle.wc_core.specs.State.{State, Act, Stepped, Closes}
+use Rattle.wc_core.specs.Step.{client_link, no_step, then_does, push_step, reply_step, sends, tell_all_step, change_step, change_step_if, refusal_step, ask_step_if, ask_step, effect_step, typed_step, leave_step, loss_step, arrival_step, outcome_step, answer_step, request_step, line_step}
 use Rattle.wc_board.specs.Connections.{connection_link, is_open, is_open_at, leaving_on, left_if, left_at}
-use Rattle.wc_core.specs.Served.{clients_of, state_of, WereTold, close_of, Distinct, LeavesBy, FollowsUnlessStarved, Does, AdmitsUnlessStarved, RanOutOfMemory, OutcomeUtf8}
+use Rattle.wc_core.specs.Served.{clients_of, state_of, WereTold, close_of, Distinct, LeavesBy, FollowsUnlessStarved, Does, AdmitsUnlessStarved, RanOutOfMemory, OutcomeUtf8, plain_beside}
 use Rattle.wc_board.specs.Served.{StaysOrStarves, told_connection, ConnectionsServed, ConnectionsKept}
 use Rattle.wc_board.specs.Answered.{is_nicklist, AnsweredIf, AnsweredAt}
 use Rattle.wc_board.specs.BoardView.{BoardView, NoStrayTouches}
-use Rattle.wc_board.specs.Told.{Told, told_of, AreTold, AreTouched}
+use Rattle.wc_board.specs.Told.{told_of, AreTold, AreTouched}
+use Rattle.wc_board.specs.Told.{Told}
+use Rattle.wc_core.specs.State.{Beside, beside}
 use Rattle.wc_board.proofs.TellLaw.{change_keeps_told}
 use Rattle.wc_buffers.specs.Kept.{AreBuffers}
 use Rattle.wc_core.proofs.CloseLemmas.{reply-later, lost-starves, pushes-closes, answer-closes-same}
@@ -63,7 +65,7 @@ pub starves-only : (old new : CoreView) → new ≡ record old { starved = min (
 starves-only old new e rises =
     let count : new.starved ≡ min (old.starved + 1) (2 ^ 64 - 1) = ap (λ (c : CoreView). c.starved) e in
     record {
-      keeps = KeepsClients-connections old new (ap (λ (c : CoreView). c.connections) e) rises (saves-as old new (record old { starved = min (old.starved + 1) (2 ^ 64 - 1) }) e refl refl) (servers-same old new (ap (λ (c : CoreView). c.servers) e));
+      keeps = KeepsClients-connections old new (ap (λ (c : CoreView). c.connections) e) rises (saves-as old new (record old { starved = min (old.starved + 1) (2 ^ 64 - 1) }) e refl refl) (servers-same old new (ap (λ (c : CoreView). c.servers) e)) (ap (λ (c : CoreView). c.verdicts) e);
       causes = λ distinct j. inl (ap (λ (c : CoreView). leaving_on j c.connections) e);
       counted = λ below. omega arith;
     }
@@ -79,21 +81,21 @@ done-starved old mid new step done e rises = λ told.
     let count : new.starved ≡ min (mid.starved + 1) (2 ^ 64 - 1) = ap (λ (c : CoreView). c.starved) e in
     let P : ℕ → List Connection → Type 0 = λ j connections. LeavesBy (leaving_on j old.connections) (close_of j (step (state_of old told)).acts) (leaving_on j connections) in
     record {
-      keeps = KeepsClients-trans old mid new f.keeps (KeepsClients-connections mid new connections rises (saves-as mid new (record mid { starved = min (mid.starved + 1) (2 ^ 64 - 1) }) e refl refl) (servers-same mid new (ap (λ (c : CoreView). c.servers) e)));
+      keeps = KeepsClients-trans old mid new f.keeps (KeepsClients-connections mid new connections rises (saves-as mid new (record mid { starved = min (mid.starved + 1) (2 ^ 64 - 1) }) e refl refl) (servers-same mid new (ap (λ (c : CoreView). c.servers) e)) (ap (λ (c : CoreView). c.verdicts) e));
       causes = λ distinct j. subst (P j) (sym connections) (f.causes distinct j);
-      does = λ same below distinct were. (let more = f.keeps.rises in absurd (omega arith));
+      does = λ same below distinct were agrees. (let more = f.keeps.rises in absurd (omega arith));
     }
 
 -- ---- notices
 
-told-all : (told told' : Told) (old : CoreView) (world : World) (pending : List OfBuffer) (n : Notice) (new : CoreView) → new ≡ told_to_all old world pending n → (WereTold old told → WereTold (told_to_all old world pending n) told')
+told-all : (told : Beside) (told' : Told) (old : CoreView) (world : World) (pending : List OfBuffer) (n : Notice) (new : CoreView) → new ≡ told_to_all old world pending n → (WereTold old told → WereTold (told_to_all old world pending n) (record told { rows = told' }))
     → FollowsUnlessStarved told old new (tell_all_step (state_of old told) told' world n)
 told-all told told' old world pending n new e were =
     let step = tell_all_step (state_of old told) told' world n in
     let P : CoreView → Type 0 = λ c. FollowsUnlessStarved told old c step in
     subst P (sym e)
     (FollowsUnlessStarved-exact told old (told_to_all old world pending n) step
-    (KeepsClients-told old (told_to_all old world pending n) (served_kept world n old.connections (map (told_connection world n) old.connections) (served_map n.kind n.buffer.0 (told_connection world n) old.connections)) (omega arith) (inl (refl, refl)) (ServersKeep-refl old.servers))
+    (KeepsClients-told old (told_to_all old world pending n) (served_kept world n old.connections (map (told_connection world n) old.connections) (served_map n.kind n.buffer.0 (told_connection world n) old.connections)) (omega arith) (inl (refl, refl)) (ServersKeep-refl old.servers) refl)
     (λ distinct. told-left told told' old world n) (λ distinct before. Follows-told told told' old world pending n distinct (were before)))
 
 -- the board made a change, and told it to all whom its notice is for
@@ -107,16 +109,16 @@ changes-all old new change n e accepted touched are stray told = inl (accepted.a
     whole : new ≡ told_to_all old new.world new.pending n
     whole = e ∙ ap (λ (connections : List Connection). record old { world = new.world; pending = new.pending; connections = connections }) told
 
-    rows' : Told → Told
-    rows' rows = told_after old.world change.buffer change.what rows
+    rows' : Beside → Told
+    rows' rows = told_after old.world change.buffer change.what rows.rows
 
-    were : (rows : Told) → WereTold old rows → WereTold (told_to_all old new.world new.pending n) (rows' rows)
+    were : (rows : Beside) → WereTold old rows → WereTold (told_to_all old new.world new.pending n) (record rows { rows = rows' rows })
     were rows before =
         let P : World → Type 0 = λ w. AreTold w new.pending (told_of (rows' rows)) in
         let Q : World → Type 0 = λ w. AreBuffers w.groups in
-        subst P (sym accepted.after) (change_keeps_told old.world change old.pending new.pending rows accepted.accepted (subst Q accepted.after are) stray touched before)
+        subst P (sym accepted.after) (change_keeps_told old.world change old.pending new.pending rows.rows accepted.accepted (subst Q accepted.after are) stray touched before)
 
-    made : (rows : Told) → FollowsUnlessStarved rows old new (change_step (state_of old rows) change)
+    made : (rows : Beside) → FollowsUnlessStarved rows old new (change_step (state_of old rows) change)
     made rows =
         let P : World → Type 0 = λ w. FollowsUnlessStarved rows old new (tell_all_step (state_of old rows) (rows' rows) w n) in
         let Q : Notice → Type 0 = λ n. FollowsUnlessStarved rows old new (tell_all_step (state_of old rows) (rows' rows) following n) in
@@ -132,7 +134,7 @@ changes-some old mid new change n service e served counts rises =
     let P : List Connection → Type 0 = λ connections. ConnectionsKept old.connections connections in
     let now : ConnectionsKept old.connections new.connections = subst P (sym (ap (λ (c : CoreView). c.connections) counts)) kept in
     inr (record {
-      keeps = KeepsClients-told old new now (omega (arith, same, rises)) (KeepsSaved-trans old mid new (saves-as old mid (record old { world = mid.world; pending = mid.pending; connections = mid.connections }) e refl refl) (saves-as mid new (record mid { starved = min (mid.starved + 1) (2 ^ 64 - 1) }) counts refl refl)) (servers-same old new (ap (λ (c : CoreView). c.servers) counts ∙ ap (λ (c : CoreView). c.servers) e));
+      keeps = KeepsClients-told old new now (omega (arith, same, rises)) (KeepsSaved-trans old mid new (saves-as old mid (record old { world = mid.world; pending = mid.pending; connections = mid.connections }) e refl refl) (saves-as mid new (record mid { starved = min (mid.starved + 1) (2 ^ 64 - 1) }) counts refl refl)) (servers-same old new (ap (λ (c : CoreView). c.servers) counts ∙ ap (λ (c : CoreView). c.servers) e)) (ap (λ (c : CoreView). c.verdicts) counts ∙ ap (λ (c : CoreView). c.verdicts) e);
       causes = λ distinct j. ConnectionsKept-causes j old.connections new.connections now;
       counted = λ below. omega arith;
     })
@@ -186,48 +188,6 @@ does-resolved old new buffer typed r e done = λ told.
     let P : Effect → Type 0 = λ r. FollowsUnlessStarved told old new (effect_step (state_of old told) r) in
     subst P e (done told)
 
--- whether the run is to end
-abbrev quit_of : Effect → Bool
-quit_of Stays = false
-quit_of ResolvedEnds = true
-quit_of (Tells text) = false
-quit_of (Asks change) = false
-quit_of (SetsOption name value) = false
-quit_of (UnsetsOption name) = false
-quit_of SavesOptions = false
-
-quit_of-meant : (change : Handle → Change) (o : Option Handle) → quit_of (of_meant change o) ≡ false
-quit_of-meant change None = refl
-quit_of-meant change (Some buffer) = refl
-
-quit_of-named : (groups : EntryGroups) (buffer : Handle) (change : Handle → Change) (o : Option (List ℕ)) → quit_of (of_named groups buffer change o) ≡ false
-quit_of-named groups buffer change None = refl
-quit_of-named groups buffer change (Some word) = quit_of-meant change (buffer_meant groups word)
-
-quit_of-switched : (o : Option Handle) → quit_of (switched o) ≡ false
-quit_of-switched None = refl
-quit_of-switched (Some buffer) = refl
-
-quit_of-resolved : (world : World) (moment : ℕ) (buffer : Handle) (typed : TypedCommand) → quit_of (effect_of world moment buffer typed) ≡ is_quit typed
-unfolding effect_of
-quit_of-resolved world moment buffer Nothing = refl
-quit_of-resolved world moment buffer Quits = refl
-quit_of-resolved world moment buffer (Refused text) = refl
-quit_of-resolved world moment buffer (Others text) = refl
-quit_of-resolved world moment buffer (Prints name tags prefix message) = quit_of-named world.groups buffer (λ b. change_of b (what.Print (line_spec moment tags prefix message))) name
-quit_of-resolved world moment buffer (Adds name) = refl
-quit_of-resolved world moment buffer (Closes name) = quit_of-named world.groups buffer (λ b. change_of b what.Close) name
-quit_of-resolved world moment buffer (Merges name) = quit_of-meant (λ into. change_of buffer (what.MergeInto into)) (buffer_meant world.groups name)
-quit_of-resolved world moment buffer (Names name) = refl
-quit_of-resolved world moment buffer (TypedChanges w) = refl
-quit_of-resolved world moment buffer (Sets name value) = refl
-quit_of-resolved world moment buffer (Unsets name) = refl
-quit_of-resolved world moment buffer (Switches name) = quit_of-switched (buffer_meant world.groups name)
-quit_of-resolved world moment buffer Saves = refl
-
-pub quits-by : (world : World) (moment : ℕ) (buffer : Handle) (typed : TypedCommand) (r : Effect) (b : Bool) → r ≡ effect_of world moment buffer typed → quit_of r ≡ b → b ≡ is_quit typed
-quits-by world moment buffer typed r b e q = sym q ∙ ap quit_of e ∙ quit_of-resolved world moment buffer typed
-
 -- ---- the connection of a link
 
 open_of : (o : Option Connection) (s : Connection) → o ≡ Some s → is_open_at o ≡ true → is_open s ≡ true
@@ -244,14 +204,14 @@ leave-put old k s why at sits = λ told.
 
 pub starve-at : (old mid new : CoreView) (k : ℕ) → Does old mid (λ state. loss_step state k NoMemory (at_key client_link k state.clients)) → mid.starved ≡ old.starved → new ≡ record mid { starved = min (mid.starved + 1) (2 ^ 64 - 1) } → mid.starved ≤ new.starved → RanOutOfMemory old new
 starve-at old mid new k done same e rises =
-    let state = state_of old old.world.nicks in
-    let lost = done old.world.nicks in
+    let state = state_of old (plain_beside old) in
+    let lost = done (plain_beside old) in
     record {
       causes = λ distinct j.
           let P : List Connection → Type 0 = λ connections. StaysOrStarves (leaving_on j old.connections) (leaving_on j connections) in
           subst P (sym (ap (λ (c : CoreView). c.connections) e))
           (lost-starves j k state (at_key client_link k (clients_of old.connections)) (leaving_on j old.connections) (leaving_on j mid.connections) (lost.causes distinct j));
-      keeps = KeepsClients-trans old mid new lost.keeps (KeepsClients-connections mid new (ap (λ (c : CoreView). c.connections) e) rises (saves-as mid new (record mid { starved = min (mid.starved + 1) (2 ^ 64 - 1) }) e refl refl) (servers-same mid new (ap (λ (c : CoreView). c.servers) e)));
+      keeps = KeepsClients-trans old mid new lost.keeps (KeepsClients-connections mid new (ap (λ (c : CoreView). c.connections) e) rises (saves-as mid new (record mid { starved = min (mid.starved + 1) (2 ^ 64 - 1) }) e refl refl) (servers-same mid new (ap (λ (c : CoreView). c.servers) e)) (ap (λ (c : CoreView). c.verdicts) e));
       counted = λ below. (let count : new.starved ≡ min (mid.starved + 1) (2 ^ 64 - 1) = ap (λ (c : CoreView). c.starved) e in omega (arith, count, same, below));
     }
 
@@ -285,10 +245,10 @@ lost-done old k why = by (at_key connection_link k old.connections) refl
 -- the loss of an open client
 pub lost-leaves : (old new : CoreView) (k : ℕ) (why : Cause) → is_open_at (at_key connection_link k old.connections) ≡ true → Does old new (λ state. loss_step state k why (at_key client_link k state.clients)) → Does old new (λ state. leave_step state k why)
 lost-leaves old new k why opened done = λ told. by told (at_key connection_link k old.connections) refl opened where
-  P : Told → Option Client → Type 0
+  P : Beside → Option Client → Type 0
   P told o = FollowsUnlessStarved told old new (loss_step (state_of old told) k why o)
 
-  by : (told : Told) (o : Option Connection) → at_key connection_link k old.connections ≡ o → is_open_at o ≡ true → FollowsUnlessStarved told old new (leave_step (state_of old told) k why)
+  by : (told : Beside) (o : Option Connection) → at_key connection_link k old.connections ≡ o → is_open_at o ≡ true → FollowsUnlessStarved told old new (leave_step (state_of old told) k why)
   by told None at sits = absurd (false≢true sits)
   by told (Some s) at sits = subst (P told) (client-open k old.connections s at sits) (done told)
 
@@ -438,7 +398,7 @@ ask-done old mid new k request result is utf8 done starved = by (at_key connecti
         let P : Stepped → Type 0 = λ step. FollowsUnlessStarved told old new step in
         let Q : OptionsValue → Type 0 = λ options. AnsweredAt k options request result (record { world = is.between.world; pending = is.between.pending; connections = is.between.connections }) (record { world = mid.world; pending = mid.pending; connections = mid.connections }) (at_key connection_link k is.between.connections) in
         let reply = answer-done is.between mid new k client request result (at_key connection_link k is.between.connections) refl (λ now here sits. is.same s now at here sits) utf8 is.answered (subst Q (sym is.options) is.board) done starved in
-        let closes : ClosesLater is.between first next = record { first_none = λ j. pushes_before-closes j client request state; same = λ j. reply-closes-same j client request (state_of is.between first.state.told) first.state (is.world ∙ sym (push_before-world client request state)) (is.options ∙ sym (push_before-options client request state)) } in
+        let closes : ClosesLater is.between first next = record { first_none = λ j. pushes_before-closes j client request state; same = λ j. reply-closes-same j client request (state_of is.between (beside first.state)) first.state (is.world ∙ sym (push_before-world client request state)) (is.options ∙ sym (push_before-options client request state)) } in
         subst P (sym (request-parts client request state)) (FollowsUnlessStarved-then told old is.between new first next closes (pushed told) reply)
 
 -- ---- arrivals
@@ -447,12 +407,26 @@ ask-done old mid new k request result is utf8 done starved = by (at_key connecti
 abbrev pub used_core : ℕ → CoreView → CoreView
 used_core link old = record old { servers = used_up link old.servers }
 
-pub came-surplus : (told : Told) (old : CoreView) (link : LinkId) (nonce : List ℕ) → client_limit old.options ≤ length (filter (λ connection. is_open connection) old.connections) → AdmitsUnlessStarved told link.0 old (used_core link.0 old) (Some Surplus) (arrival_step (state_of old told) link.0 nonce)
+-- no arrival changes the oracle
+arrival-oracle : (state : State) (link : ℕ) (nonce : List ℕ) → (arrival_step state link nonce).state.oracle ≡ state.oracle
+arrival-oracle state link nonce = by (nat_lt (length state.clients) (client_limit state.options)) where
+  came_to : Stepped
+  came_to = no_step (record state { clients = state.clients ++ new_client state.options (record { 0 = link }) nonce ∷ []; used = max state.used link })
+
+  taken : Stepped
+  taken = record { state = record state { used = max state.used link }; acts = Closes link Surplus ∷ [] }
+
+  by : (t : Bool) → (cond t came_to taken).state.oracle ≡ state.oracle
+  by true = refl
+  by false = refl
+
+pub came-surplus : (told : Beside) (old : CoreView) (link : LinkId) (nonce : List ℕ) → client_limit old.options ≤ length (filter (λ connection. is_open connection) old.connections) → AdmitsUnlessStarved told link.0 old (used_core link.0 old) (Some Surplus) (arrival_step (state_of old told) link.0 nonce)
 came-surplus told old link nonce full =
     let same = open-length old.connections in
     let test : nat_lt (length (clients_of old.connections)) (client_limit old.options) ≡ false = grind (arith, nat_tests) in
     record {
       rises = omega arith;
+      oracle = rw test refl;
       connections = refl;
       servers = refl;
       kept = λ j some. refl;
@@ -460,11 +434,12 @@ came-surplus told old link nonce full =
       comes = λ stay below were. rw test (record { means = record { same = refl; told = were }; bytes = λ j. refl; leaving = λ j. refl; quits = refl; acts = refl });
     }
 
-pub came-starved : (told : Told) (old new : CoreView) (link : LinkId) (nonce : List ℕ) → new ≡ record (used_core link.0 old) { starved = min (old.starved + 1) (2 ^ 64 - 1) } → old.starved ≤ new.starved → AdmitsUnlessStarved told link.0 old new (Some NoMemory) (arrival_step (state_of old told) link.0 nonce)
+pub came-starved : (told : Beside) (old new : CoreView) (link : LinkId) (nonce : List ℕ) → new ≡ record (used_core link.0 old) { starved = min (old.starved + 1) (2 ^ 64 - 1) } → old.starved ≤ new.starved → AdmitsUnlessStarved told link.0 old new (Some NoMemory) (arrival_step (state_of old told) link.0 nonce)
 came-starved told old new link nonce e rises =
     let count : new.starved ≡ min (old.starved + 1) (2 ^ 64 - 1) = ap (λ (c : CoreView). c.starved) e in
     record {
       rises = rises;
+      oracle = arrival-oracle (state_of old told) link.0 nonce;
       connections = ap (λ (c : CoreView). c.connections) e;
       servers = ap (λ (c : CoreView). c.servers) e;
       kept = λ j some. ap (λ (c : CoreView). at_key connection_link j c.connections) e;
@@ -472,7 +447,7 @@ came-starved told old new link nonce e rises =
       comes = λ same below were. absurd (omega arith);
     }
 
-pub came : (told : Told) (old : CoreView) (link : LinkId) (nonce : List ℕ) → length (filter (λ connection. is_open connection) old.connections) < client_limit old.options
+pub came : (told : Beside) (old : CoreView) (link : LinkId) (nonce : List ℕ) → length (filter (λ connection. is_open connection) old.connections) < client_limit old.options
     → AdmitsUnlessStarved told link.0 old (record (used_core link.0 old) { connections = old.connections ++ record { session = new_session old.options link nonce; leaving = None } ∷ [] }) None (arrival_step (state_of old told) link.0 nonce)
 came told old link nonce few =
     let same = open-length old.connections in
@@ -480,6 +455,7 @@ came told old link nonce few =
     let test : nat_lt (length (clients_of old.connections)) (client_limit old.options) ≡ true = grind (arith, nat_tests) in
     record {
       rises = omega arith;
+      oracle = rw test refl;
       connections = links-push old.connections connection;
       servers = refl;
       kept = λ j some. kept-push j old.connections connection some;

@@ -15,7 +15,9 @@ use Rattle.wc_core.specs.Step.{no_step, then_does}
 use Rattle.wc_board.specs.Connections.{connection_link, unsent_on, leaving_in, leaving_on}
 use Rattle.wc_core.specs.Served.{links_of, state_of, WereTold, sent_by, sent_to, or_else, close_by, close_of, outs_by, outs_of, Distinct, Follows, LeavesBy, KeepsSaved, KeepsClients, FollowsUnlessStarved, Does, RanOutOfMemory, ChangesBuffers, ChangesServers}
 use Rattle.wc_board.specs.Served.{StaysOrStarves}
-use Rattle.wc_board.specs.Told.{Told}
+use Rattle.wc_core.specs.State.{Beside, beside}
+use Rattle.wc_eval.specs.Verdicts.{Oracle, Agrees, Stay, VerdictsView}
+use Rattle.wc_core.proofs.OracleLemmas.{Stay-refl, Stay-trans, Agrees-before, verdicts-same}
 
 pub sent_to-append : (j : ℕ) (a b : List Act) → sent_to j (a ++ b) ≡ sent_to j a ++ sent_to j b
 sent_to-append j [] b = refl
@@ -68,17 +70,18 @@ no-order a b acts e none =
     subst P (sym none) (subst (λ servers. LeaveInOrder a.servers servers []) (sym e) (LeaveInOrder-refl a.servers))
 
 -- nothing is done
-pub Follows-stays : (told : Told) (a : CoreView) → WereTold a told → Follows a a (no_step (state_of a told))
-Follows-stays told a were = record { means = record { same = refl; told = were }; bytes = λ j. sym (append-nil (unsent_on j a.connections)); leaving = λ j. sym (or_else-none (leaving_on j a.connections)); quits = sym (or-false a.quits); servers = ServersFollow-refl a.servers; parts = LeaveInOrder-refl a.servers }
+pub Follows-stays : (told : Beside) (a : CoreView) → WereTold a told → Follows told a a (no_step (state_of a told))
+Follows-stays told a were = record { means = record { same = refl; told = were }; oracle = refl; bytes = λ j. sym (append-nil (unsent_on j a.connections)); leaving = λ j. sym (or_else-none (leaving_on j a.connections)); quits = sym (or-false a.quits); servers = ServersFollow-refl a.servers; parts = LeaveInOrder-refl a.servers }
 
 -- one step after another
-pub Follows-then : (a b c : CoreView) (first : Stepped) (next : State → Stepped) → ServersKeep a.servers b.servers → Follows a b first → Follows b c (next (state_of b first.state.told)) → Follows a c (then_does first next)
-Follows-then a b c first next come f g =
-    let P : State → Type 0 = λ s. Follows b c (next s) in
-    let h : Follows b c (next first.state) = subst P (sym f.means.same) g in
+pub Follows-then : (told : Beside) (a b c : CoreView) (first : Stepped) (next : State → Stepped) → ServersKeep a.servers b.servers → Follows told a b first → Follows (beside first.state) b c (next (state_of b (beside first.state))) → Follows told a c (then_does first next)
+Follows-then told a b c first next come f g =
+    let P : State → Type 0 = λ s. Follows (beside first.state) b c (next s) in
+    let h : Follows (beside first.state) b c (next first.state) = subst P (sym f.means.same) g in
     let acts = (next first.state).acts in
     record {
       means = h.means;
+      oracle = h.oracle ∙ f.oracle;
       bytes = λ j. h.bytes j ∙ ap (λ t. t ++ sent_to j acts) (f.bytes j) ∙ append_assoc (unsent_on j a.connections) (sent_to j first.acts) (sent_to j acts) ∙ ap (λ t. unsent_on j a.connections ++ t) (sym (sent_to-append j first.acts acts));
       leaving = λ j. h.leaving j ∙ ap (λ o. or_else o (close_of j acts)) (f.leaving j) ∙ or_else-assoc (leaving_on j a.connections) (close_of j first.acts) (close_of j acts) ∙ ap (λ o. or_else (leaving_on j a.connections) o) (sym (close_of-append j first.acts acts));
       quits = h.quits ∙ ap (λ t. t || has_end acts) f.quits ∙ or-assoc a.quits (has_end first.acts) (has_end acts) ∙ ap (λ t. a.quits || t) (sym (has_end-append first.acts acts));
@@ -92,7 +95,7 @@ KeepsSaved-trans a b c (inr f) (inl g) = inr (g.0 ∙ f.0, subst IsSome (sym g.1
 KeepsSaved-trans a b c f (inr g) = inr g
 
 pub KeepsClients-refl : (a : CoreView) → KeepsClients a a
-KeepsClients-refl a = record { rises = omega arith; links = refl; kept = λ j s. refl; saves = inl (refl, refl); servers = ServersKeep-refl a.servers }
+KeepsClients-refl a = record { rises = omega arith; links = refl; kept = λ j s. refl; saves = inl (refl, refl); servers = ServersKeep-refl a.servers; verdicts = Stay-refl a.verdicts }
 
 pub KeepsClients-trans : (a b c : CoreView) → KeepsClients a b → KeepsClients b c → KeepsClients a c
 KeepsClients-trans a b c f g = record {
@@ -104,19 +107,20 @@ KeepsClients-trans a b c f g = record {
       g.kept j (subst P (sym same) s) ∙ same;
   saves = KeepsSaved-trans a b c f.saves g.saves;
   servers = ServersKeep-trans a.servers b.servers c.servers f.servers g.servers;
+  verdicts = Stay-trans a.verdicts b.verdicts c.verdicts f.verdicts g.verdicts;
 }
 
 -- the same connections, and want of memory may be counted
-pub KeepsClients-connections : (a b : CoreView) → b.connections ≡ a.connections → a.starved ≤ b.starved → KeepsSaved a b → ServersKeep a.servers b.servers → KeepsClients a b
-KeepsClients-connections a b e rises saves servers = record { rises = rises; links = ap (map connection_link) e; kept = λ j s. ap (at_key connection_link j) e; saves = saves; servers = servers }
+pub KeepsClients-connections : (a b : CoreView) → b.connections ≡ a.connections → a.starved ≤ b.starved → KeepsSaved a b → ServersKeep a.servers b.servers → b.verdicts ≡ a.verdicts → KeepsClients a b
+KeepsClients-connections a b e rises saves servers judged = record { rises = rises; links = ap (map connection_link) e; kept = λ j s. ap (at_key connection_link j) e; saves = saves; servers = servers; verdicts = verdicts-same a.verdicts b.verdicts judged }
 
 -- nothing is saved where this is all that is known of what was saved
 pub saves-as : (a b c : CoreView) → b ≡ c → c.saved ≡ a.saved → c.unwritten ≡ a.unwritten → KeepsSaved a b
 saves-as a b c e saved unwritten = inl (ap (λ (core : CoreView). core.unwritten) e ∙ unwritten, ap (λ (core : CoreView). core.saved) e ∙ saved)
 
-pub FollowsUnlessStarved-exact : (told : Told) (a b : CoreView) (s : Stepped) → KeepsClients a b → (Distinct (links_of a) → (j : ℕ) → leaving_on j b.connections ≡ or_else (leaving_on j a.connections) (close_of j s.acts))
-    → (Distinct (links_of a) → WereTold a told → Follows a b s) → FollowsUnlessStarved told a b s
-FollowsUnlessStarved-exact told a b s keeps leaves did = record { keeps = keeps; causes = λ distinct j. inl (leaves distinct j); does = λ same below distinct were. did distinct were }
+pub FollowsUnlessStarved-exact : (told : Beside) (a b : CoreView) (s : Stepped) → KeepsClients a b → (Distinct (links_of a) → (j : ℕ) → leaving_on j b.connections ≡ or_else (leaving_on j a.connections) (close_of j s.acts))
+    → (Distinct (links_of a) → WereTold a told → Follows told a b s) → FollowsUnlessStarved told a b s
+FollowsUnlessStarved-exact told a b s keeps leaves did = record { keeps = keeps; causes = λ distinct j. inl (leaves distinct j); does = λ same below distinct were agrees. did distinct were }
 
 -- where no client begins to leave
 pub leaves-none : (a : CoreView) (s : Stepped) → ((j : ℕ) → close_of j s.acts ≡ None) → (j : ℕ) → leaving_on j a.connections ≡ or_else (leaving_on j a.connections) (close_of j s.acts)
@@ -125,8 +129,8 @@ leaves-none a s closes j = sym (ap (or_else (leaving_on j a.connections)) (close
 pub Does-stays : (a : CoreView) → Does a a no_step
 Does-stays a = λ told. FollowsUnlessStarved-exact told a a (no_step (state_of a told)) (KeepsClients-refl a) (λ distinct. leaves-none a (no_step (state_of a told)) (λ j. refl)) (λ distinct were. Follows-stays told a were)
 
-pub FollowsUnlessStarved-starved : (told : Told) (a b : CoreView) (s : Stepped) → RanOutOfMemory a b → FollowsUnlessStarved told a b s
-FollowsUnlessStarved-starved told a b s f = record { keeps = f.keeps; causes = λ distinct j. inr (f.causes distinct j); does = λ same below distinct were. (let more = f.counted below in absurd (omega arith)) }
+pub FollowsUnlessStarved-starved : (told : Beside) (a b : CoreView) (s : Stepped) → RanOutOfMemory a b → FollowsUnlessStarved told a b s
+FollowsUnlessStarved-starved told a b s f = record { keeps = f.keeps; causes = λ distinct j. inr (f.causes distinct j); does = λ same below distinct were agrees. (let more = f.counted below in absurd (omega arith)) }
 
 pub Does-starved : (a b : CoreView) (step : State → Stepped) → RanOutOfMemory a b → Does a b step
 Does-starved a b step f = λ told. FollowsUnlessStarved-starved told a b (step (state_of a told)) f
@@ -144,14 +148,14 @@ leaving-stays a b j why keeps e =
 -- then means
 pub record ClosesLater (b : CoreView) (first : Stepped) (next : State → Stepped) : Type 0 where
   pub first_none : (j : ℕ) → close_of j first.acts ≡ None
-  pub same : (j : ℕ) → close_of j (next (state_of b first.state.told)).acts ≡ close_of j (next first.state).acts
+  pub same : (j : ℕ) → close_of j (next (state_of b (beside first.state))).acts ≡ close_of j (next first.state).acts
 
 causes-then : (a b c : CoreView) (first : Stepped) (next : State → Stepped) (j : ℕ) → ClosesLater b first next → KeepsClients b c
-    → LeavesBy (leaving_on j a.connections) (close_of j first.acts) (leaving_on j b.connections) → LeavesBy (leaving_on j b.connections) (close_of j (next (state_of b first.state.told)).acts) (leaving_on j c.connections)
+    → LeavesBy (leaving_on j a.connections) (close_of j first.acts) (leaving_on j b.connections) → LeavesBy (leaving_on j b.connections) (close_of j (next (state_of b (beside first.state))).acts) (leaving_on j c.connections)
     → LeavesBy (leaving_on j a.connections) (close_of j (then_does first next).acts) (leaving_on j c.connections)
 causes-then a b c first next j closes keeps f g = by (stays_by f) g where
   later : State
-  later = state_of b first.state.told
+  later = state_of b (beside first.state)
 
   whole : close_of j (next later).acts ≡ close_of j (then_does first next).acts
   whole =
@@ -169,20 +173,21 @@ causes-then a b c first next j closes keeps f g = by (stays_by f) g where
   by (inl e) (inr (inr g)) = inr (inr g)
   by (inr e) g = inr (inr (leaving-stays b c j NoMemory keeps e))
 
-pub FollowsUnlessStarved-then : (told : Told) (a b c : CoreView) (first : Stepped) (next : State → Stepped) → ClosesLater b first next → FollowsUnlessStarved told a b first → Does b c next → FollowsUnlessStarved told a c (then_does first next)
+pub FollowsUnlessStarved-then : (told : Beside) (a b c : CoreView) (first : Stepped) (next : State → Stepped) → ClosesLater b first next → FollowsUnlessStarved told a b first → Does b c next → FollowsUnlessStarved told a c (then_does first next)
 FollowsUnlessStarved-then told a b c first next closes f done = record {
   keeps = KeepsClients-trans a b c f.keeps g.keeps;
   causes = λ distinct j. causes-then a b c first next j closes g.keeps (f.causes distinct j) (g.causes (subst Distinct (sym f.keeps.links) distinct) j);
-  does = λ same below distinct were.
+  does = λ same below distinct were agrees.
       let p = f.keeps.rises in
       let q = g.keeps.rises in
       let half : b.starved ≡ a.starved = omega arith in
       let rest : c.starved ≡ b.starved = omega arith in
-      let before = f.does half below distinct were in
-      Follows-then a b c first next f.keeps.servers before (g.does rest (omega arith) (subst Distinct (sym f.keeps.links) distinct) before.means.told);
+      let before = f.does half below distinct were (Agrees-before told.oracle b.verdicts c.verdicts g.keeps.verdicts agrees) in
+      let P : Oracle → Type 0 = λ oracle. Agrees oracle c.verdicts in
+      Follows-then told a b c first next f.keeps.servers before (g.does rest (omega arith) (subst Distinct (sym f.keeps.links) distinct) before.means.told (subst P (sym before.oracle) agrees));
 } where
-  g : FollowsUnlessStarved first.state.told b c (next (state_of b first.state.told))
-  g = done first.state.told
+  g : FollowsUnlessStarved (beside first.state) b c (next (state_of b (beside first.state)))
+  g = done (beside first.state)
 
 -- ---- what stays
 

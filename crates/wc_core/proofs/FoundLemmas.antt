@@ -18,7 +18,7 @@ use Rattle.wc_core.specs.State.{State, Stepped}
 use Rattle.wc_core.specs.Changing.{no_step}
 use Rattle.wc_core.specs.ServerSteps.{try_step, server_acts_step, server_of}
 use Rattle.wc_core.specs.ServerTyped.{open_new_step, meant_server, disconnect_step, acts_in, on_buffer_step}
-use Rattle.wc_core.specs.Served.{state_of, Does}
+use Rattle.wc_core.specs.Served.{state_of, Does, plain_beside}
 use Rattle.wc_core.proofs.DidLemmas.{Does-stays}
 use Rattle.wc_core.proofs.ChainLemmas.{Does-as}
 use Rattle.wc_core.proofs.CoreLemmas.{starved_only}
@@ -66,7 +66,7 @@ runs-asked old new k (Err f) acts e done starves = starves (λ state. server_act
 
 -- the server that is meant is told the end
 pub ends-found : {E : Type 0} (old new : CoreView) (buffer : Handle) (name : Option (List ℕ)) (seat : SeatView) (link : ℕ) (server : ServerState) (r : Result (List ServerAct) E)
-    → Some (seat_of seat) ≡ meant_server (state_of old old.world.nicks) buffer name → link ≡ seat.link → server ≡ seat.server → IfOk r (λ a. a ≡ disconnect_acts server)
+    → Some (seat_of seat) ≡ meant_server (state_of old (plain_beside old)) buffer name → link ≡ seat.link → server ≡ seat.server → IfOk r (λ a. a ≡ disconnect_acts server)
     → IfOk r (λ a. Does old new (λ state. server_acts_step true link state a)) → IfErr r (λ e. (step : State → Stepped) → Does old new step)
     → Does old new (λ state. disconnect_step state buffer name)
 ends-found old new buffer name seat link server r meant linked same is done starves =
@@ -76,7 +76,7 @@ ends-found old new buffer name seat link server r meant linked same is done star
 
 -- what is typed for the server of a buffer
 pub types-linked : {E : Type 0} (old new : CoreView) (buffer : Handle) (line : List ℕ) (seat : SeatView) (link : ℕ) (server : ServerState) (groups : EntryGroups) (r : Result (Option (List ServerAct)) E)
-    → Some (seat_of seat) ≡ server_of (state_of old old.world.nicks) buffer → link ≡ seat.link → server ≡ seat.server → groups ≡ old.world.groups → IfOk r (λ o. o ≡ acts_of_typed groups server buffer line)
+    → Some (seat_of seat) ≡ server_of (state_of old (plain_beside old)) buffer → link ≡ seat.link → server ≡ seat.server → groups ≡ old.world.groups → IfOk r (λ o. o ≡ acts_of_typed groups server buffer line)
     → IfOk r (λ o. Does old new (λ state. server_acts_step true link state (acts_in o))) → IfErr r (λ e. (step : State → Stepped) → Does old new step)
     → Does old new (λ state. on_buffer_step state buffer line (server_of state buffer))
 types-linked old new buffer line seat link server groups r here linked same shown is done starves =
@@ -89,7 +89,7 @@ types-linked old new buffer line seat link server groups r here linked same show
 
 -- the same on a buffer of no server
 pub types-unlinked : {E : Type 0} (old new : CoreView) (buffer : Handle) (line : List ℕ) (groups : EntryGroups) (r : Result (Option (List ServerAct)) E)
-    → None ≡ server_of (state_of old old.world.nicks) buffer → groups ≡ old.world.groups → IfOk r (λ o. o ≡ acts_of_unlinked groups buffer line)
+    → None ≡ server_of (state_of old (plain_beside old)) buffer → groups ≡ old.world.groups → IfOk r (λ o. o ≡ acts_of_unlinked groups buffer line)
     → IfOk r (λ o. Does old new (λ state. server_acts_step true 0 state (acts_in o))) → IfErr r (λ e. (step : State → Stepped) → Does old new step)
     → Does old new (λ state. on_buffer_step state buffer line (server_of state buffer))
 types-unlinked old new buffer line groups r here shown is done starves =

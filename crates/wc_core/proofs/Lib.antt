@@ -3,6 +3,7 @@ pub mod TypedLemmas
 pub mod ResolvedWords
 pub mod ResolvedTexts
 pub mod ComeLemmas
+pub mod OracleLemmas
 pub mod DidLemmas
 pub mod ConnectionLemmas
 pub mod ChainLemmas
@@ -20,6 +21,7 @@ pub mod CoreLemmas
 pub mod ActLemmas
 pub mod AnswerLemmas
 pub mod StartLemmas
+pub mod EvalLemmas
 pub mod MessageLemmas
 pub mod OptionLemmas
 pub mod AskedLemmas

@@ -7,7 +7,7 @@ use Rattle.wc_session.specs.declared.client.Client.{Client}
 use Rattle.wc_board.specs.declared.connection.Connection.{Connection}
 use Rattle.wc_text.specs.declared.names.Cause.{Cause}
 use Rattle.wc_board.specs.Connections.{connection_link, is_open_at, leaving_in}
-use Rattle.wc_board.specs.Told.{Told}
+use Rattle.wc_core.specs.State.{Beside}
 use Rattle.wc_core.specs.CoreView.{CoreView}
 use Rattle.wc_core.specs.State.{State, Stepped}
 use Rattle.wc_core.specs.Step.{client_link}
@@ -52,17 +52,17 @@ shut-chooses old new k step shut done = λ told.
     record {
       keeps = f.keeps;
       causes = λ distinct j. rw (none distinct) (f.causes distinct j);
-      does = λ same below distinct were. rw (none distinct) (f.does same below distinct were);
+      does = λ same below distinct were agrees. rw (none distinct) (f.does same below distinct were agrees);
     }
 
 -- what is done of an open client
 pub open-chooses : (old new : CoreView) (k : ℕ) (step whole : State → Option Client → Stepped) → ((state : State) (client : Client) → step state (Some client) ≡ whole state (Some client)) → is_open_at (at_key connection_link k old.connections) ≡ true
     → Does old new (λ state. step state (at_key client_link k state.clients)) → Does old new (λ state. whole state (at_key client_link k state.clients))
 open-chooses old new k step whole same opened done = λ told. by told (at_key connection_link k old.connections) refl opened where
-  P : Told → Option Client → Type 0
+  P : Beside → Option Client → Type 0
   P told o = FollowsUnlessStarved told old new (step (state_of old told) o)
 
-  by : (told : Told) (o : Option Connection) → at_key connection_link k old.connections ≡ o → is_open_at o ≡ true → FollowsUnlessStarved told old new (whole (state_of old told) (at_key client_link k (clients_of old.connections)))
+  by : (told : Beside) (o : Option Connection) → at_key connection_link k old.connections ≡ o → is_open_at o ≡ true → FollowsUnlessStarved told old new (whole (state_of old told) (at_key client_link k (clients_of old.connections)))
   by told None at sits = absurd (false≢true sits)
   by told (Some s) at sits =
       let here = client-open k old.connections s at sits in

@@ -15,7 +15,7 @@ use Rattle.wc_core.specs.State.{State, Stepped}
 use Rattle.wc_core.specs.Step.{no_step, refusal_step, set_step, set_step_if, unset_step, unset_step_if, save_step}
 use Rattle.wc_core.specs.Served.{state_of, FollowsUnlessStarved, Does}
 use Rattle.wc_board.specs.Connections.{unsent_on}
-use Rattle.wc_board.specs.Told.{Told}
+use Rattle.wc_core.specs.State.{Beside}
 use Rattle.wc_servers.proofs.OutLemmas.{ServersFollow-refl}
 use Rattle.wc_core.proofs.ComeLemmas.{ServersKeep-refl, LeaveInOrder-refl}
 use Rattle.wc_core.proofs.DidLemmas.{or-false, leaves-none, KeepsClients-connections, FollowsUnlessStarved-exact}
@@ -23,11 +23,11 @@ use Rattle.wc_core.proofs.TypedLemmas.{ascii_text}
 
 -- ---- the options after a command
 
-pub options-are : (told : Told) (old : CoreView) (options : OptionsValue) → FollowsUnlessStarved told old (record old { options = options }) (no_step (record (state_of old told) { options = options }))
+pub options-are : (told : Beside) (old : CoreView) (options : OptionsValue) → FollowsUnlessStarved told old (record old { options = options }) (no_step (record (state_of old told) { options = options }))
 options-are told old options =
     let step = no_step (record (state_of old told) { options = options }) in
-    FollowsUnlessStarved-exact told old (record old { options = options }) step (KeepsClients-connections old (record old { options = options }) refl (omega arith) (inl (refl, refl)) (ServersKeep-refl old.servers)) (λ distinct. leaves-none old step (λ j. refl))
-    (λ distinct were. record { means = record { same = refl; told = were }; bytes = λ j. sym (append-nil (unsent_on j old.connections)); leaving = leaves-none old step (λ j. refl); quits = sym (or-false old.quits); servers = ServersFollow-refl old.servers; parts = LeaveInOrder-refl old.servers })
+    FollowsUnlessStarved-exact told old (record old { options = options }) step (KeepsClients-connections old (record old { options = options }) refl (omega arith) (inl (refl, refl)) (ServersKeep-refl old.servers) refl) (λ distinct. leaves-none old step (λ j. refl))
+    (λ distinct were. record { means = record { same = refl; told = were }; oracle = refl; bytes = λ j. sym (append-nil (unsent_on j old.connections)); leaving = leaves-none old step (λ j. refl); quits = sym (or-false old.quits); servers = ServersFollow-refl old.servers; parts = LeaveInOrder-refl old.servers })
 
 -- the text of the options is kept as the one that was saved last
 pub save-done : (old : CoreView) (text : List ℕ) → text ≡ config_text old.options → Does old (record old { saved = Some text; unwritten = true }) save_step
@@ -35,8 +35,8 @@ save-done old text e = λ told.
     let new : CoreView = record old { saved = Some text; unwritten = true } in
     let step = save_step (state_of old told) in
     let of : List ℕ → State = λ text. record (state_of old told) { saved = Some text } in
-    FollowsUnlessStarved-exact told old new step (KeepsClients-connections old new refl (omega arith) (inr (refl, refl)) (ServersKeep-refl old.servers)) (λ distinct. leaves-none old step (λ j. refl))
-    (λ distinct were. record { means = record { same = ap of (sym e); told = were }; bytes = λ j. sym (append-nil (unsent_on j old.connections)); leaving = leaves-none old step (λ j. refl); quits = sym (or-false old.quits); servers = ServersFollow-refl old.servers; parts = LeaveInOrder-refl old.servers })
+    FollowsUnlessStarved-exact told old new step (KeepsClients-connections old new refl (omega arith) (inr (refl, refl)) (ServersKeep-refl old.servers) refl) (λ distinct. leaves-none old step (λ j. refl))
+    (λ distinct were. record { means = record { same = ap of (sym e); told = were }; oracle = refl; bytes = λ j. sym (append-nil (unsent_on j old.connections)); leaving = leaves-none old step (λ j. refl); quits = sym (or-false old.quits); servers = ServersFollow-refl old.servers; parts = LeaveInOrder-refl old.servers })
 
 pub set-done : (old : CoreView) (options : OptionsValue) (name value : List ℕ) → refusal_of old.options name value ≡ None → options ≡ with_value old.options name value → Does old (record old { options = options }) (λ state. set_step state name value)
 set-done old options name value accepted e = λ told.
@@ -69,13 +69,13 @@ set-refused old new options name value reason e refuses told starves =
 
 pub unset-done : (old : CoreView) (options : OptionsValue) (name : List ℕ) → value_of old.options name ≢ None → options ≡ without_value old.options name → Does old (record old { options = options }) (λ state. unset_step state name)
 unset-done old options name known e = λ told. by told (value_of old.options name) refl where
-  P : Told → OptionsValue → Type 0
+  P : Beside → OptionsValue → Type 0
   P told o = FollowsUnlessStarved told old (record old { options = options }) (no_step (record (state_of old told) { options = o }))
 
-  Q : Told → Option (List ℕ) → Type 0
+  Q : Beside → Option (List ℕ) → Type 0
   Q told o = FollowsUnlessStarved told old (record old { options = options }) (unset_step_if (state_of old told) name o)
 
-  by : (told : Told) (o : Option (List ℕ)) → value_of old.options name ≡ o → FollowsUnlessStarved told old (record old { options = options }) (unset_step (state_of old told) name)
+  by : (told : Beside) (o : Option (List ℕ)) → value_of old.options name ≡ o → FollowsUnlessStarved told old (record old { options = options }) (unset_step (state_of old told) name)
   by told None at = absurd (known at)
   by told (Some value) at = subst (Q told) (sym at) (subst (P told) e (options-are told old options))
 

@@ -24,7 +24,8 @@ use Rattle.wc_board.specs.declared.connection.Connection.{Connection}
 use Rattle.wc_board.specs.Connections.{connection_link, is_open, leaving_in, leaving_on}
 use Rattle.wc_board.specs.Pushes.{pushes_told, sent_connection, pushed_connection, AreHeld}
 use Rattle.wc_board.specs.Served.{ConnectionsKept}
-use Rattle.wc_board.specs.Told.{Told, told_of, AreTold, AreSameTouches}
+use Rattle.wc_board.specs.Told.{told_of, AreTold, AreSameTouches}
+use Rattle.wc_core.specs.State.{Beside}
 use Rattle.wc_board.proofs.ConnectionLemmas.{ConnectionsKept-links, ConnectionsKept-leaving, ConnectionsKept-causes}
 use Rattle.wc_board.proofs.PushConnections.{sent_client}
 use Rattle.wc_board.proofs.TellLaw.{rows_told}
@@ -38,6 +39,8 @@ use Rattle.wc_core.proofs.CloseLemmas.{pushes-closes}
 use Rattle.wc_core.proofs.ConnectionLemmas.{end-sends, outs-sends}
 use Rattle.wc_core.proofs.DidLemmas.{or_else-none, or-false, has_end-append, outs_of-append, no-outs, no-order, servers-same, saves-as}
 use Rattle.wc_core.proofs.PushBytes.{pushes-sent, pushed-clients}
+use Rattle.wc_eval.specs.Verdicts.{Oracle, VerdictsView}
+use Rattle.wc_core.proofs.OracleLemmas.{verdicts-same}
 
 -- ---- the core at first
 
@@ -59,14 +62,14 @@ no_rows_held = record { ascending = tt; keyed = tt; held = λ k r e. absurd (cc)
 first_held : (limit : ℕ) → AreHeld (first_world limit)
 first_held limit b = subst IsRows (sym (first_rows limit b)) no_rows_held
 
-pub first-means : (options : OptionsValue) (limit : ℕ) (commands : List (List ℕ)) (starved : ℕ) (quits : Bool)
-    → Means (record { options = options; world = first_world limit; pending = []; connections = []; moment = 0; commands = commands; saved = None; unwritten = false; servers = no_servers; connects = true; starved = starved; quits = quits }) (first_state options limit commands)
-first-means options limit commands starved quits = record { same = refl; told = rows_told (first_world limit) [] (first_held limit) (λ b. refl) }
+pub first-means : (oracle : Oracle) (verdicts : VerdictsView) (options : OptionsValue) (limit : ℕ) (commands : List (List ℕ)) (starved : ℕ) (quits : Bool)
+    → Means (record { options = options; world = first_world limit; pending = []; connections = []; moment = 0; commands = commands; saved = None; unwritten = false; servers = no_servers; verdicts = verdicts; connects = true; starved = starved; quits = quits }) (first_state oracle options limit commands)
+first-means oracle verdicts options limit commands starved quits = record { same = refl; told = rows_told (first_world limit) [] (first_held limit) (λ b. refl) }
 
 -- ---- what is kept of touches
 
 -- what the core means stays where the same is kept
-pub same-told : (old : CoreView) (pending : List OfBuffer) (told : Told) → AreSameTouches old.pending pending → WereTold old told → WereTold (record old { pending = pending }) told
+pub same-told : (old : CoreView) (pending : List OfBuffer) (told : Beside) → AreSameTouches old.pending pending → WereTold old told → WereTold (record old { pending = pending }) told
 same-told old pending told same were b = record {
   held = (were b).held;
   found = λ k. ap (λ first. told_or first (find_row k (rows_at old.world b.0))) (same b k) ∙ (were b).found k;
@@ -82,11 +85,11 @@ Does-over old mid new step e same done =
     over done = λ told.
         let f = done told in
         record {
-          keeps = record { rises = f.keeps.rises; links = f.keeps.links; kept = f.keeps.kept; saves = f.keeps.saves; servers = f.keeps.servers };
+          keeps = record { rises = f.keeps.rises; links = f.keeps.links; kept = f.keeps.kept; saves = f.keeps.saves; servers = f.keeps.servers; verdicts = f.keeps.verdicts };
           causes = f.causes;
-          does = λ stays below distinct were.
-              let g = f.does stays below distinct (same-told old mid.pending told same were) in
-              record { means = g.means; bytes = g.bytes; leaving = g.leaving; quits = g.quits; servers = g.servers; parts = g.parts };
+          does = λ stays below distinct were agrees.
+              let g = f.does stays below distinct (same-told old mid.pending told same were) agrees in
+              record { means = g.means; oracle = g.oracle; bytes = g.bytes; leaving = g.leaving; quits = g.quits; servers = g.servers; parts = g.parts };
         }
 
 -- ---- pushes
@@ -158,13 +161,14 @@ pushed_keeps old new is = record {
   kept = λ j some. ConnectionsKept-leaving j old.connections new.connections is.kept some;
   saves = saves-as old new (record old { pending = new.pending; connections = new.connections; starved = new.starved }) is.stays refl refl;
   servers = servers-same old new (ap (λ (c : CoreView). c.servers) is.stays);
+  verdicts = verdicts-same old.verdicts new.verdicts (ap (λ (c : CoreView). c.verdicts) is.stays);
 }
 
 pub push-done : (old new : CoreView) → IsPushedCore old new → Does old new push_step
 push-done old new is = λ told. record {
   keeps = pushed_keeps old new is;
   causes = λ distinct j. inr (ConnectionsKept-causes j old.connections new.connections is.kept);
-  does = λ same below distinct were. by told same below distinct were;
+  does = λ same below distinct were agrees. by told same below distinct were;
 } where
   next : CoreView
   next = record old { pending = new.pending; connections = new.connections; starved = new.starved }
@@ -172,16 +176,17 @@ push-done old new is = λ told. record {
   rows : AreTold old.world new.pending (rows_at old.world)
   rows = let P : World → Type 0 = λ w. AreTold w new.pending (rows_at w) in subst P (ap (λ (c : CoreView). c.world) is.stays) is.rows
 
-  by : (told : Told) → new.starved ≡ old.starved → old.starved < 2 ^ 64 - 1 → Distinct (links_of old) → WereTold old told → Follows old new (push_step (state_of old told))
+  by : (told : Beside) → new.starved ≡ old.starved → old.starved < 2 ^ 64 - 1 → Distinct (links_of old) → WereTold old told → Follows told old new (push_step (state_of old told))
   by told same below distinct were =
       let state = state_of old told in
-      let pushed = is.all below same (told_of told) were in
-      let of : List Client → State = λ clients. record { options = old.options; clients = clients; world = old.world; told = old.world.nicks; moment = old.moment; commands = old.commands; saved = old.saved; servers = open_of old.servers.seats; used = old.servers.used; connects = old.connects } in
-      let P : CoreView → Type 0 = λ c. Follows old c (push_step state) in
+      let pushed = is.all below same (told_of told.rows) were in
+      let of : List Client → State = λ clients. record { options = old.options; clients = clients; world = old.world; told = old.world.nicks; moment = old.moment; commands = old.commands; saved = old.saved; servers = open_of old.servers.seats; used = old.servers.used; connects = old.connects; oracle = told.oracle } in
+      let P : CoreView → Type 0 = λ c. Follows told old c (push_step state) in
       subst P (sym is.stays) (record {
-        means = record { same = ap of (sym (ap clients_of pushed ∙ pushed-clients old.world (told_of told) (order old.world.groups) old.connections)); told = rows };
+        means = record { same = ap of (sym (ap clients_of pushed ∙ pushed-clients old.world (told_of told.rows) (order old.world.groups) old.connections)); told = rows };
+        oracle = refl;
         bytes = λ j. pushes-sent j state old.world old.connections new.connections refl refl distinct pushed;
-        leaving = λ j. ap (leaving_on j) pushed ∙ pushed_leaving j old.world (told_of told) (order old.world.groups) old.connections ∙ sym (ap (or_else (leaving_on j old.connections)) (pushes-closes j state) ∙ or_else-none (leaving_on j old.connections));
+        leaving = λ j. ap (leaving_on j) pushed ∙ pushed_leaving j old.world (told_of told.rows) (order old.world.groups) old.connections ∙ sym (ap (or_else (leaving_on j old.connections)) (pushes-closes j state) ∙ or_else-none (leaving_on j old.connections));
         quits = sym (ap (λ t. old.quits || t) (pushes-end state) ∙ or-false old.quits);
         servers = no-outs old next (push_step state).acts refl (pushes-outs state);
         parts = no-order old next (push_step state).acts refl (pushes-outs state);
@@ -191,7 +196,7 @@ pub tick-done : (old new : CoreView) (moment : ℕ) → Does (record old { momen
 tick-done old new moment done = λ told.
     let f = done told in
     record {
-      keeps = record { rises = f.keeps.rises; links = f.keeps.links; kept = f.keeps.kept; saves = f.keeps.saves; servers = f.keeps.servers };
+      keeps = record { rises = f.keeps.rises; links = f.keeps.links; kept = f.keeps.kept; saves = f.keeps.saves; servers = f.keeps.servers; verdicts = f.keeps.verdicts };
       causes = f.causes;
-      does = λ same below distinct were. (let g = f.does same below distinct were in record { means = g.means; bytes = g.bytes; leaving = g.leaving; quits = g.quits; servers = g.servers; parts = g.parts });
+      does = λ same below distinct were agrees. (let g = f.does same below distinct were agrees in record { means = g.means; oracle = g.oracle; bytes = g.bytes; leaving = g.leaving; quits = g.quits; servers = g.servers; parts = g.parts });
     }

@@ -24,11 +24,12 @@ use Rattle.wc_model.specs.World.{World, last_handle}
 use Rattle.wc_model.specs.Touches.{touched_key}
 use Rattle.wc_model.specs.Apply.{or_else, of_buffers, refusal_of_handles, is_held, no_line, row_of, refusal_of, refusal}
 use Rattle.wc_world.specs.Texts.{IsChangeText}
-use Rattle.wc_core.specs.Typed.{TypedCommand, Nothing, Quits, Refused, Others, Prints, Adds, Closes, Merges, Names, Changes, Sets, Unsets, Switches, Saves, typed_line}
+use Rattle.wc_core.specs.Typed.{TypedCommand, Nothing, Quits, Refused, Others, Prints, Adds, Closes, Merges, Names, Changes, Sets, Unsets, Switches, Saves, typed_line, Evaluates}
 use Rattle.wc_core.specs.Resolved.{Effect, Stays, Ends, Tells, Asks, SetsOption, UnsetsOption, SavesOptions, switched, buffer_meant, no_such_buffer, of_meant, of_named, change_of, line_spec, core_spec, plugin_in, rename_of, effect_of, buffer_text, refusal_text, told_refusal}
 use Rattle.wc_core.specs.Texts.{WhatUtf8}
 use Rattle.wc_core.proofs.TypedLemmas.{ascii_text, TypedUtf8, typed_utf8}
 use Rattle.wc_core.proofs.ResolvedWords.{plugin_before}
+use Rattle.wc_core.specs.Evaluated.{printed_value}
 
 -- ---- what a line comes to
 
@@ -82,6 +83,7 @@ resolved-utf8 world moment buffer (Sets name value) are utf8 = utf8
 resolved-utf8 world moment buffer (Unsets name) are utf8 = utf8
 resolved-utf8 world moment buffer (Switches name) are utf8 = switched_text (buffer_meant world.groups name)
 resolved-utf8 world moment buffer Saves are utf8 = tt
+resolved-utf8 world moment buffer (Evaluates usage value) are utf8 = tt
 
 -- the same of a line that was read
 pub line-utf8 : (world : World) (moment : ℕ) (buffer : Handle) (typed : TypedCommand) (line : List ℕ) (r : Effect) → AreBuffers world.groups → IsUtf8 line → typed ≡ typed_line line → r ≡ effect_of world moment buffer typed → ResolvedUtf8 r
@@ -136,6 +138,14 @@ untouched (what.ChangeNick item) utf8 = absurd utf8
 
 pub told_text : (moment : ℕ) (text : List ℕ) → IsUtf8 text → IsChangeText (told_refusal moment text).what
 told_text moment text utf8 = record { tags = All-nil IsUtf8; prefix = ascii_text (codes "=!=") refl; message = utf8 }
+
+-- what is printed of a text that was evaluated is text
+pub printed_text : (moment : ℕ) (value : List ℕ) → IsUtf8 value → WhatUtf8 (printed_value moment value).what
+printed_text moment value utf8 = record {
+  tags = All-nil IsUtf8;
+  prefix = IsUtf8-nil;
+  message = IsUtf8-append (codes "== [") (value ++ codes "]") (ascii_text (codes "== [") refl) (IsUtf8-append value (codes "]") utf8 (ascii_text (codes "]") refl));
+}
 
 -- ---- why a change is refused
 

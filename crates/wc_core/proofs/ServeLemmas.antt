@@ -21,34 +21,37 @@ use Rattle.wc_session.specs.Known.{Known}
 use Rattle.wc_session.specs.Sending.{spelling}
 use Rattle.wc_board.specs.declared.connection.Connection.{Connection}
 use Rattle.wc_core.specs.CoreView.{CoreView}
-use Rattle.wc_core.specs.Typed.{typed_line}
 use Rattle.wc_core.specs.TypedSeen.{lines_left}
-use Rattle.wc_core.specs.State.{State, Stepped}
+use Rattle.wc_core.specs.State.{State, Stepped, has_end}
 use Rattle.wc_core.specs.Inputs.{GoesOn, Stops}
-use Rattle.wc_core.specs.Step.{client_link, sends, no_step, then_does, tell_all_step, input_step, is_quit, lines_step, leave_step}
+use Rattle.wc_core.specs.Step.{client_link, sends, no_step, then_does, tell_all_step, input_step, lines_step, leave_step}
 use Rattle.wc_board.specs.Connections.{connection_link, is_open, unsent_in, unsent_on, leaving_in, leaving_on}
 use Rattle.wc_core.specs.Served.{links_of, clients_of, state_of, WereTold, or_else, close_of, LeavesBy, Distinct, Follows, KeepsSaved, KeepsClients, FollowsUnlessStarved, Does}
 use Rattle.wc_board.specs.Served.{StaysOrStarves, told_connection, ConnectionsKept}
 use Rattle.wc_board.specs.Told.{Told}
+use Rattle.wc_core.specs.State.{Beside}
 use Rattle.wc_servers.proofs.OutLemmas.{ServersFollow-refl}
 use Rattle.wc_core.specs.ServersKept.{ServersKeep}
 use Rattle.wc_core.proofs.ComeLemmas.{ServersKeep-refl, LeaveInOrder-refl}
 use Rattle.wc_core.proofs.DidLemmas.{no-outs, no-order, or_else-none, or-false, Does-stays, FollowsUnlessStarved-then}
-use Rattle.wc_core.proofs.CloseLemmas.{input-closes, input-later}
+use Rattle.wc_core.proofs.CloseLemmas.{input-closes, runs-closes}
 use Rattle.wc_core.proofs.ConnectionLemmas.{sent-sends, close-sends, outs-sends, end-sends, close-told, outs-told, end-told, told-clients, told-leaving, told-bytes, clients-put, clients-leave}
 use Rattle.wc_board.proofs.ConnectionLemmas.{ConnectionsKept-links, ConnectionsKept-leaving}
+use Rattle.wc_core.proofs.StartLemmas.{ends-first, goes-on}
+use Rattle.wc_core.proofs.OracleLemmas.{verdicts-same, Stay-refl}
 
 -- ---- a notice that is told
 
 abbrev pub told_to_all : CoreView → World → List OfBuffer → Notice → CoreView
 told_to_all old world pending n = record old { world = world; pending = pending; connections = map (told_connection world n) old.connections }
 
-pub told-left : (told told' : Told) (old : CoreView) (world : World) (n : Notice) (j : ℕ) → leaving_on j (map (told_connection world n) old.connections) ≡ or_else (leaving_on j old.connections) (close_of j (tell_all_step (state_of old told) told' world n).acts)
+pub told-left : (told : Beside) (told' : Told) (old : CoreView) (world : World) (n : Notice) (j : ℕ) → leaving_on j (map (told_connection world n) old.connections) ≡ or_else (leaving_on j old.connections) (close_of j (tell_all_step (state_of old told) told' world n).acts)
 told-left told told' old world n j = told-leaving j world n old.connections ∙ sym (ap (or_else (leaving_on j old.connections)) (close-told j world n (clients_of old.connections)) ∙ or_else-none (leaving_on j old.connections))
 
-pub Follows-told : (told told' : Told) (old : CoreView) (world : World) (pending : List OfBuffer) (n : Notice) → Distinct (links_of old) → WereTold (told_to_all old world pending n) told' → Follows old (told_to_all old world pending n) (tell_all_step (state_of old told) told' world n)
+pub Follows-told : (told : Beside) (told' : Told) (old : CoreView) (world : World) (pending : List OfBuffer) (n : Notice) → Distinct (links_of old) → WereTold (told_to_all old world pending n) (record told { rows = told' }) → Follows told old (told_to_all old world pending n) (tell_all_step (state_of old told) told' world n)
 Follows-told told told' old world pending n distinct were = record {
   means = record { same = rw (told-clients world n old.connections) refl; told = were };
+  oracle = refl;
   bytes = λ j. told-bytes j world n old.connections distinct;
   leaving = told-left told told' old world n;
   quits = sym (ap (λ t. old.quits || t) (end-told world n (clients_of old.connections)) ∙ or-false old.quits);
@@ -56,8 +59,8 @@ Follows-told told told' old world pending n distinct were = record {
   parts = no-order old (told_to_all old world pending n) (tell_all_step (state_of old told) told' world n).acts refl (outs-told world n (clients_of old.connections));
 }
 
-pub KeepsClients-told : (old new : CoreView) → ConnectionsKept old.connections new.connections → old.starved ≤ new.starved → KeepsSaved old new → ServersKeep old.servers new.servers → KeepsClients old new
-KeepsClients-told old new kept rises saves servers = record { servers = servers; saves = saves; rises = rises; links = ConnectionsKept-links old.connections new.connections kept; kept = λ j some. ConnectionsKept-leaving j old.connections new.connections kept some }
+pub KeepsClients-told : (old new : CoreView) → ConnectionsKept old.connections new.connections → old.starved ≤ new.starved → KeepsSaved old new → ServersKeep old.servers new.servers → new.verdicts ≡ old.verdicts → KeepsClients old new
+KeepsClients-told old new kept rises saves servers judged = record { verdicts = verdicts-same old.verdicts new.verdicts judged; servers = servers; saves = saves; rises = rises; links = ConnectionsKept-links old.connections new.connections kept; kept = λ j some. ConnectionsKept-leaving j old.connections new.connections kept some }
 
 -- ---- a connection that is changed
 
@@ -87,6 +90,7 @@ KeepsClients-put old k s y at sits key = record {
   kept = λ j some. by j (eqb j k) refl some;
   saves = inl (refl, refl);
   servers = ServersKeep-refl old.servers;
+  verdicts = Stay-refl old.verdicts;
 } where
   by : (j : ℕ) (t : Bool) → eqb j k ≡ t → IsSome (leaving_on j old.connections) → at_key connection_link j (put_at connection_link k y old.connections) ≡ at_key connection_link j old.connections
   by j true e some =
@@ -123,11 +127,12 @@ pub reply-left : (old : CoreView) (k : ℕ) (s : Connection) (session' : Known) 
     → leaving_on j (put_at connection_link k (record { session = session'; leaving = None }) old.connections) ≡ or_else (leaving_on j old.connections) (close_of j (sends k messages))
 reply-left old k s session' messages j at sits key = leaving-put old k s session' j at sits key ∙ sym (ap (or_else (leaving_on j old.connections)) (close-sends j k messages) ∙ or_else-none (leaving_on j old.connections))
 
-pub Follows-reply : (told : Told) (old : CoreView) (k : ℕ) (s : Connection) (session' : Known) (messages : List WireMessage) → at_key connection_link k old.connections ≡ Some s → is_open s ≡ true → client_link session'.client ≡ k
+pub Follows-reply : (told : Beside) (old : CoreView) (k : ℕ) (s : Connection) (session' : Known) (messages : List WireMessage) → at_key connection_link k old.connections ≡ Some s → is_open s ≡ true → client_link session'.client ≡ k
     → session'.unsent ≡ s.session.unsent ++ flat_map (λ m. spelling m) messages → WereTold old told
-    → Follows old (record old { connections = put_at connection_link k (record { session = session'; leaving = None }) old.connections }) (record { state = record (state_of old told) { clients = put_at client_link k session'.client (clients_of old.connections) }; acts = sends k messages })
+    → Follows told old (record old { connections = put_at connection_link k (record { session = session'; leaving = None }) old.connections }) (record { state = record (state_of old told) { clients = put_at client_link k session'.client (clients_of old.connections) }; acts = sends k messages })
 Follows-reply told old k s session' messages at sits key e were = record {
   means = record { same = rw (clients-put k old.connections s session' at sits) refl; told = were };
+  oracle = refl;
   bytes = λ j. bytes_by j (eqb k j) refl ∙ ap (λ t. unsent_on j old.connections ++ t) (sym (sent-sends j k messages));
   leaving = λ j. reply-left old k s session' messages j at sits key;
   quits = sym (ap (λ t. old.quits || t) (end-sends k messages) ∙ or-false old.quits);
@@ -155,14 +160,15 @@ left-by k j s why connections at sits = by (eqb k j) refl where
   by true q = let seen = put_here (Option Cause) leaving_in k j s y connections at key q in seen.0 ∙ sym (ap (λ o. or_else o (Some why)) (seen.1 ∙ open_none s sits))
   by false q = put_there (Option Cause) leaving_in k j y connections key q ∙ sym (or_else-none (leaving_on j connections))
 
-pub leave-left : (told : Told) (old : CoreView) (k : ℕ) (s : Connection) (why : Cause) (j : ℕ) → at_key connection_link k old.connections ≡ Some s → is_open s ≡ true
+pub leave-left : (told : Beside) (old : CoreView) (k : ℕ) (s : Connection) (why : Cause) (j : ℕ) → at_key connection_link k old.connections ≡ Some s → is_open s ≡ true
     → leaving_on j (put_at connection_link k (record { session = s.session; leaving = Some why }) old.connections) ≡ or_else (leaving_on j old.connections) (close_of j (leave_step (state_of old told) k why).acts)
 leave-left told old k s why j at sits = left-by k j s why old.connections at sits
 
-pub Follows-leave : (told : Told) (old : CoreView) (k : ℕ) (s : Connection) (why : Cause) → Distinct (links_of old) → at_key connection_link k old.connections ≡ Some s → is_open s ≡ true → WereTold old told
-    → Follows old (record old { connections = put_at connection_link k (record { session = s.session; leaving = Some why }) old.connections }) (leave_step (state_of old told) k why)
+pub Follows-leave : (told : Beside) (old : CoreView) (k : ℕ) (s : Connection) (why : Cause) → Distinct (links_of old) → at_key connection_link k old.connections ≡ Some s → is_open s ≡ true → WereTold old told
+    → Follows told old (record old { connections = put_at connection_link k (record { session = s.session; leaving = Some why }) old.connections }) (leave_step (state_of old told) k why)
 Follows-leave told old k s why distinct at sits were = record {
   means = record { same = rw (clients-leave k old.connections s s.session why distinct at) refl; told = were };
+  oracle = refl;
   bytes = λ j. bytes_by j (eqb k j) refl ∙ sym (append-nil (unsent_on j old.connections));
   leaving = λ j. leave-left told old k s why j at sits;
   quits = sym (or-false old.quits);
@@ -182,43 +188,39 @@ Follows-leave told old k s why distinct at sits were = record {
 -- ---- a text that is typed
 
 -- a step that closes no one, of which memory was refused
-FollowsUnlessStarved-cut : (told : Told) (a b : CoreView) (s t : Stepped) → ((j : ℕ) → close_of j s.acts ≡ None) → b.starved ≢ a.starved → FollowsUnlessStarved told a b s → FollowsUnlessStarved told a b t
+FollowsUnlessStarved-cut : (told : Beside) (a b : CoreView) (s t : Stepped) → ((j : ℕ) → close_of j s.acts ≡ None) → b.starved ≢ a.starved → FollowsUnlessStarved told a b s → FollowsUnlessStarved told a b t
 FollowsUnlessStarved-cut told a b s t closes starved f = record {
   keeps = f.keeps;
   causes = λ distinct j. inr (by j (f.causes distinct j));
-  does = λ same below distinct were. absurd (starved same);
+  does = λ same below distinct were agrees. absurd (starved same);
 } where
   by : (j : ℕ) → LeavesBy (leaving_on j a.connections) (close_of j s.acts) (leaving_on j b.connections) → StaysOrStarves (leaving_on j a.connections) (leaving_on j b.connections)
   by j (inl e) = inl (e ∙ ap (or_else (leaving_on j a.connections)) (closes j) ∙ or_else-none (leaving_on j a.connections))
   by j (inr e) = e
 
 -- what a line does to a buffer that is there
-abbrev run_if : Bool → Bool → Stepped → Stepped → Stepped → Stepped
-run_if there quit nothing one all = cond (not there) nothing (cond quit one all)
-
-runs-there : (P : Stepped → Type 0) (a : State) (buffer : Handle) (line : List ℕ) (lines : List (List ℕ)) (quit : Bool) → is_there buffer a.world.groups ≡ true → is_quit (typed_line line) ≡ quit
-    → P (cond quit (input_step a buffer line) (then_does (input_step a buffer line) (λ next. lines_step next buffer lines))) → P (lines_step a buffer (line ∷ lines))
-runs-there P a buffer line lines quit there goes f =
+runs-there : (P : Stepped → Type 0) (a : State) (buffer : Handle) (line : List ℕ) (lines : List (List ℕ)) → is_there buffer a.world.groups ≡ true
+    → P (cond (has_end (input_step a buffer line).acts) (input_step a buffer line) (then_does (input_step a buffer line) (λ next. lines_step next buffer lines))) → P (lines_step a buffer (line ∷ lines))
+runs-there P a buffer line lines there f =
     let one = input_step a buffer line in
     let all = then_does one (λ next. lines_step next buffer lines) in
-    let Q : Bool → Type 0 = λ t. P (run_if t (is_quit (typed_line line)) (no_step a) one all) in
-    let R : Bool → Type 0 = λ q. P (run_if true q (no_step a) one all) in
-    subst Q (sym there) (subst R (sym goes) f)
+    let Q : Bool → Type 0 = λ t. P (cond (not t) (no_step a) (cond (has_end one.acts) one all)) in
+    subst Q (sym there) f
 
 -- one line, and the lines after it
-pub Does-runs : (a b c : CoreView) (buffer : Handle) (line : List ℕ) (lines : List (List ℕ)) → is_there buffer a.world.groups ≡ true → GoesOn a b buffer line → Does b c (λ state. lines_step state buffer lines)
+pub Does-runs : (a b c : CoreView) (buffer : Handle) (line : List ℕ) (lines : List (List ℕ)) → is_there buffer a.world.groups ≡ true → a.quits ≡ false → GoesOn a b buffer line → Does b c (λ state. lines_step state buffer lines)
     → Does a c (λ state. lines_step state buffer (line ∷ lines))
-Does-runs a b c buffer line lines there f g = λ told.
+Does-runs a b c buffer line lines there going f g = λ told.
     let P : Stepped → Type 0 = λ s. FollowsUnlessStarved told a c s in
-    let state = state_of a told in
-    runs-there P state buffer line lines false there f.goes
-    (FollowsUnlessStarved-then told a b c (input_step state buffer line) (λ next. lines_step next buffer lines) (input-later b state buffer line lines) (f.does told) g)
+    runs-there P (state_of a told) buffer line lines there
+    (goes-on a b c (λ state. input_step state buffer line) (λ next. lines_step next buffer lines) (λ j state. input-closes j state buffer line) (λ j state. runs-closes j state buffer lines) going f.goes f.does g told)
 
 -- the lines after it are skipped where the run is to end, and where memory was refused
-pub stops-quit : (a b : CoreView) (buffer : Handle) (line : List ℕ) → is_quit (typed_line line) ≡ true → Does a b (λ state. input_step state buffer line) → Stops a b buffer line
-stops-quit a b buffer line quit f = λ lines there told.
+pub stops-quit : (a b : CoreView) (buffer : Handle) (line : List ℕ) → a.quits ≡ false → b.quits ≡ true → Does a b (λ state. input_step state buffer line) → Stops a b buffer line
+stops-quit a b buffer line going quit f = λ lines there told.
     let P : Stepped → Type 0 = λ s. FollowsUnlessStarved told a b s in
-    runs-there P (state_of a told) buffer line lines true there quit (f told)
+    runs-there P (state_of a told) buffer line lines there
+    (ends-first a b (λ state. input_step state buffer line) (λ next. lines_step next buffer lines) (λ j state. input-closes j state buffer line) going quit f told)
 
 pub stops-starved : (a b : CoreView) (buffer : Handle) (line : List ℕ) → b.starved ≢ a.starved → Does a b (λ state. input_step state buffer line) → Stops a b buffer line
 stops-starved a b buffer line starved f = λ lines there told.
@@ -235,7 +237,7 @@ gone_left a buffer left rest line others e front back there = λ told.
     let state = state_of a told in
     let P : List (List ℕ) → Type 0 = λ lines. FollowsUnlessStarved told a a (lines_step state buffer lines) in
     let one = input_step state buffer line in
-    let Q : Bool → Type 0 = λ t. FollowsUnlessStarved told a a (run_if t (is_quit (typed_line line)) (no_step state) one (then_does one (λ next. lines_step next buffer (lines_left others)))) in
+    let Q : Bool → Type 0 = λ t. FollowsUnlessStarved told a a (cond (not t) (no_step state) (cond (has_end one.acts) one (then_does one (λ next. lines_step next buffer (lines_left others))))) in
     subst P (left_lines left rest line others e front back) (subst Q (sym there) (Does-stays a told))
 
 -- a line after which the lines that are left are skipped
@@ -247,7 +249,7 @@ quit_left a b buffer left rest line others e front back there stops = λ told.
 
 -- another line, before the lines that are left
 pub more_left : (a b c : CoreView) (buffer : Handle) (left : Option (Bor (List ℕ))) (rest : Bor (List ℕ)) (line : List ℕ) (others : Option (Bor (List ℕ))) → left ≡ Some rest → line ≡ before 10 rest.now → option_copied others ≡ text_after 10 rest.now
-    → is_there buffer a.world.groups ≡ true → GoesOn a b buffer line → Does b c (λ state. lines_step state buffer (lines_left others)) → Does a c (λ state. lines_step state buffer (lines_left left))
-more_left a b c buffer left rest line others e front back there f g = λ told.
+    → is_there buffer a.world.groups ≡ true → a.quits ≡ false → GoesOn a b buffer line → Does b c (λ state. lines_step state buffer (lines_left others)) → Does a c (λ state. lines_step state buffer (lines_left left))
+more_left a b c buffer left rest line others e front back there going f g = λ told.
     let P : List (List ℕ) → Type 0 = λ lines. FollowsUnlessStarved told a c (lines_step (state_of a told) buffer lines) in
-    subst P (left_lines left rest line others e front back) (Does-runs a b c buffer line (lines_left others) there f g told)
+    subst P (left_lines left rest line others e front back) (Does-runs a b c buffer line (lines_left others) there going f g told)

@@ -19,7 +19,7 @@ use Rattle.wc_irc.specs.declared.act.Act.{Act as ServerAct}
 use Rattle.wc_irc.specs.LinkActs.{first_acts, after_connect, loss_acts, after_loss}
 use Rattle.wc_irc.specs.ServerActs.{acts_of_server, after_server}
 use Rattle.wc_irc.specs.Servers.{ServerState}
-use Rattle.wc_board.specs.Told.{Told}
+use Rattle.wc_core.specs.State.{Beside}
 use Rattle.wc_servers.specs.Lost.{BecomesIf, BecomesAt, Stood, Took, LosesIf, Lost}
 use Rattle.wc_servers.specs.Seats.{SeatView, ServersView, ServerSeat, seat_link, server_link, is_open, is_open_at, seat_of, open_of, open_in, open_if, told_if, told_at, known, left_for, server_named, AreSeats}
 use Rattle.wc_servers.proofs.OutLemmas.{open-at}
@@ -28,7 +28,7 @@ use Rattle.wc_core.specs.State.{State, Stepped}
 use Rattle.wc_core.specs.Changing.{no_step, then_does}
 use Rattle.wc_core.specs.Inputs.{taken_at}
 use Rattle.wc_core.specs.ServerSteps.{with_server, acts_step, leave_server, server_loss_step, server_acts_step, message_step, server_line_step, stands_step, named_in, server_of, parting_step}
-use Rattle.wc_core.specs.Served.{state_of, close_of, Does}
+use Rattle.wc_core.specs.Served.{state_of, close_of, Does, plain_beside}
 use Rattle.wc_core.proofs.DidLemmas.{Does-stays}
 use Rattle.wc_core.proofs.CoreLemmas.{done-starved}
 use Rattle.wc_core.proofs.ChainLemmas.{ClosesNone, stays-by, Does-then, Does-as}
@@ -48,13 +48,13 @@ starves-after a b c first whole none done e rises = λ told.
     record {
       keeps = g.keeps;
       causes = λ distinct j. inr (stays-by a c j (close_of j (first (state_of a told)).acts) (none j (state_of a told)) (g.causes distinct j));
-      does = λ same below distinct were. absurd (omega (arith, same, below, count, more));
+      does = λ same below distinct were agrees. absurd (omega (arith, same, below, count, more));
     }
 
 -- want of memory is counted also after something was done
 pub counts-after : (old mid new : CoreView) (step : State → Stepped) → Does old mid step → new ≡ record mid { starved = min (mid.starved + 1) (2 ^ 64 - 1) } → old.starved < 2 ^ 64 - 1 → old.starved < new.starved
 counts-after old mid new step done e below =
-    let rises = (done old.world.nicks).keeps.rises in
+    let rises = (done (plain_beside old)).keeps.rises in
     let count : new.starved ≡ min (mid.starved + 1) (2 ^ 64 - 1) = ap (λ (c : CoreView). c.starved) e in
     omega (arith, rises, count, below)
 
@@ -62,7 +62,7 @@ counts-after old mid new step done e below =
 
 becomes-by : (E : Type 0) (old new : CoreView) (k : ℕ) (does : ServerState → List ServerAct) (after : ServerState → ServerState) (step : State → Option ServerSeat → Stepped) (seats : List SeatView) (acts : List ServerAct)
     → ((state : State) → step state None ≡ no_step state)
-    → ((told : Told) (s : ServerSeat) → step (state_of old told) (Some s) ≡ server_acts_step false k (with_server (state_of old told) k (after s.server)) (does s.server))
+    → ((told : Beside) (s : ServerSeat) → step (state_of old told) (Some s) ≡ server_acts_step false k (with_server (state_of old told) k (after s.server)) (does s.server))
     → AreSeats old.servers → (o : Option SeatView) → at_key seat_link k old.servers.seats ≡ o → BecomesAt {E = E} k does after old.servers.seats seats (Ok acts) o
     → Does (record old { servers = record old.servers { seats = seats } }) new (λ state. server_acts_step false k state acts) → Does old new (λ state. step state (at_key server_link k state.servers))
 becomes-by E old new k does after step seats acts none some are o at is done = by o at is
@@ -119,7 +119,7 @@ pub lines-read : (old new : CoreView) (k : ℕ) (line : List ℕ) (m : Message) 
 lines-read old new k line m e done =
     Does-as old new (λ state. taken_at state k m (at_key server_link k state.servers)) (λ state. server_line_step state k line (at_key server_link k state.servers)) (λ told. by told (at_key server_link k (open_of old.servers.seats))) done
   where
-    by : (told : Told) (o : Option ServerSeat) → taken_at (state_of old told) k m o ≡ server_line_step (state_of old told) k line o
+    by : (told : Beside) (o : Option ServerSeat) → taken_at (state_of old told) k m o ≡ server_line_step (state_of old told) k line o
     by told None = refl
     by told (Some seat) = ap (message_step (state_of old told) k seat.server) (sym e)
 
@@ -128,7 +128,7 @@ pub lines-passed : (old : CoreView) (k : ℕ) (line : List ℕ) (refused : LineR
 lines-passed old k line refused e =
     Does-as old old no_step (λ state. server_line_step state k line (at_key server_link k state.servers)) (λ told. by told (at_key server_link k (open_of old.servers.seats))) (Does-stays old)
   where
-    by : (told : Told) (o : Option ServerSeat) → no_step (state_of old told) ≡ server_line_step (state_of old told) k line o
+    by : (told : Beside) (o : Option ServerSeat) → no_step (state_of old told) ≡ server_line_step (state_of old told) k line o
     by told None = refl
     by told (Some seat) = ap (message_step (state_of old told) k seat.server) (sym e)
 
@@ -285,23 +285,23 @@ loses-server old new k why false e is = is
 abbrev named_by : ServersView → Option (List Pair) → Option ServerSeat
 named_by servers vars = named_in (open_of servers.seats) (option_and_then (value_of (codes "server")) vars)
 
-pub serves-none : (core : CoreView) (buffer : Handle) (groups : EntryGroups) → groups ≡ core.world.groups → None ≡ vars_at buffer groups → None ≡ server_of (state_of core core.world.nicks) buffer
+pub serves-none : (core : CoreView) (buffer : Handle) (groups : EntryGroups) → groups ≡ core.world.groups → None ≡ vars_at buffer groups → None ≡ server_of (state_of core (plain_beside core)) buffer
 serves-none core buffer groups same e = ap (named_by core.servers) (e ∙ ap (vars_at buffer) same)
 
-pub serves-unnamed : (core : CoreView) (buffer : Handle) (groups : EntryGroups) (vars : List Pair) → groups ≡ core.world.groups → Some vars ≡ vars_at buffer groups → None ≡ value_of (codes "server") vars → None ≡ server_of (state_of core core.world.nicks) buffer
+pub serves-unnamed : (core : CoreView) (buffer : Handle) (groups : EntryGroups) (vars : List Pair) → groups ≡ core.world.groups → Some vars ≡ vars_at buffer groups → None ≡ value_of (codes "server") vars → None ≡ server_of (state_of core (plain_beside core)) buffer
 serves-unnamed core buffer groups vars same e none = ap (named_in (open_of core.servers.seats)) none ∙ ap (named_by core.servers) (e ∙ ap (vars_at buffer) same)
 
 pub serves-named : (core : CoreView) (buffer : Handle) (groups : EntryGroups) (vars : List Pair) (name said : List ℕ) (found : Option ServerSeat) → groups ≡ core.world.groups → Some vars ≡ vars_at buffer groups → Some name ≡ value_of (codes "server") vars → said ≡ name
-    → found ≡ server_named said (open_of core.servers.seats) → found ≡ server_of (state_of core core.world.nicks) buffer
+    → found ≡ server_named said (open_of core.servers.seats) → found ≡ server_of (state_of core (plain_beside core)) buffer
 serves-named core buffer groups vars name said found same e named read is =
     is ∙ ap (λ name. server_named name (open_of core.servers.seats)) read ∙ ap (named_in (open_of core.servers.seats)) named ∙ ap (named_by core.servers) (e ∙ ap (vars_at buffer) same)
 
 -- the channel of a buffer is left, where the buffer has a server
-pub parts-none : (old : CoreView) (buffer : Handle) → None ≡ server_of (state_of old old.world.nicks) buffer → Does old old (λ state. parting_step state buffer (server_of state buffer))
+pub parts-none : (old : CoreView) (buffer : Handle) → None ≡ server_of (state_of old (plain_beside old)) buffer → Does old old (λ state. parting_step state buffer (server_of state buffer))
 parts-none old buffer none = Does-as old old no_step (λ state. parting_step state buffer (server_of state buffer)) (λ told. ap (parting_step (state_of old told) buffer) none) (Does-stays old)
 
 pub parts-found : (old new : CoreView) (buffer : Handle) (groups : EntryGroups) (seat : SeatView) (link : ℕ) (server : ServerState) (acts : List ServerAct)
-    → Some (seat_of seat) ≡ server_of (state_of old old.world.nicks) buffer → link ≡ seat.link → server ≡ seat.server → groups ≡ old.world.groups → acts ≡ close_acts groups server buffer → Does old new (λ state. acts_step false link state acts)
+    → Some (seat_of seat) ≡ server_of (state_of old (plain_beside old)) buffer → link ≡ seat.link → server ≡ seat.server → groups ≡ old.world.groups → acts ≡ close_acts groups server buffer → Does old new (λ state. acts_step false link state acts)
     → Does old new (λ state. parting_step state buffer (server_of state buffer))
 parts-found old new buffer groups seat link server acts there linked same shown e done =
     let P : ℕ → Type 0 = λ n. Does old new (λ state. acts_step false n state acts) in

@@ -6,7 +6,7 @@ use Rattle.wc_outside.specs.Keyed.{at_key, put_at, without}
 use Rattle.wc_outside.proofs.KeyedLemmas.{at_key-key, put_at-same}
 use Rattle.wc_irc.specs.Servers.{ServerState}
 use Rattle.wc_board.specs.Connections.{unsent_on, leaving_on}
-use Rattle.wc_board.specs.Told.{Told}
+use Rattle.wc_core.specs.State.{Beside}
 use Rattle.wc_servers.specs.Outs.{Out, SendsLine, Connects, Parts, quit_outs, ServersFollow}
 use Rattle.wc_servers.specs.Seats.{SeatView, ServersView, ServerSeat, seat_link, server_link, is_open, seat_of, open_of, open_in, open_if, links_of, AreApart, AreSeats, told, told_if, told_at, known, left_for, begun, ended, quitting, MayQuit}
 use Rattle.wc_servers.proofs.OutLemmas.{told-follows, known-follows, left-follows, begun-follows, open-at, open-put, open-left, open-push}
@@ -44,14 +44,15 @@ serving state servers = record state { servers = open_of servers.seats; used = s
 
 -- other servers, and what goes out for them before these acts
 pub serves-by : (old : CoreView) (servers : ServersView) (quits : Bool) (outs : List Out) (acts : List Act) (step : State → Stepped)
-    → ((told : Told) → step (state_of old told) ≡ record { state = serving (state_of old told) servers; acts = map Serves outs ++ acts })
+    → ((told : Beside) → step (state_of old told) ≡ record { state = serving (state_of old told) servers; acts = map Serves outs ++ acts })
     → ((j : ℕ) → sent_to j acts ≡ []) → ((j : ℕ) → close_of j acts ≡ None) → outs_of acts ≡ [] → quits ≡ (old.quits || has_end acts)
     → ServersKeep old.servers servers → ServersFollow old.servers servers outs → LeaveInOrder old.servers servers outs → Does old (record old { servers = servers; quits = quits }) step
 serves-by old servers quits outs acts step is bytes closes none quit comes follows order = Does-as old new whole step (λ told. sym (is told)) (λ told.
-    FollowsUnlessStarved-exact told old new (whole (state_of old told)) (KeepsClients-connections old new refl (omega arith) (inl (refl, refl)) comes)
+    FollowsUnlessStarved-exact told old new (whole (state_of old told)) (KeepsClients-connections old new refl (omega arith) (inl (refl, refl)) comes refl)
     (λ distinct. leaves-none old (whole (state_of old told)) closing)
     (λ distinct were. record {
       means = record { same = refl; told = were };
+      oracle = refl;
       bytes = λ j. sym (ap (λ t. unsent_on j old.connections ++ t) (out_bytes j outs acts (bytes j)) ∙ append-nil _);
       leaving = leaves-none old (whole (state_of old told)) closing;
       quits = quit ∙ ap (λ t. old.quits || t) (sym (out_end outs acts));
@@ -67,7 +68,7 @@ serves-by old servers quits outs acts step is bytes closes none quit comes follo
       closing : (j : ℕ) → close_of j (map Serves outs ++ acts) ≡ None
       closing j = out-closes j outs acts (closes j)
 
-pub serves : (old : CoreView) (servers : ServersView) (outs : List Out) (step : State → Stepped) → ((told : Told) → step (state_of old told) ≡ record { state = serving (state_of old told) servers; acts = map Serves outs ++ [] })
+pub serves : (old : CoreView) (servers : ServersView) (outs : List Out) (step : State → Stepped) → ((told : Beside) → step (state_of old told) ≡ record { state = serving (state_of old told) servers; acts = map Serves outs ++ [] })
     → ServersKeep old.servers servers → ServersFollow old.servers servers outs → LeaveInOrder old.servers servers outs → Does old (record old { servers = servers }) step
 serves old servers outs step is comes follows order = serves-by old servers old.quits outs [] step is (λ j. refl) (λ j. refl) refl (sym (or-false old.quits)) comes follows order
 
@@ -101,7 +102,7 @@ sends-line old k line are = by (at_key seat_link k old.servers.seats) refl where
       let y : SeatView = told line s in
       let new : ServersView = record old.servers { seats = put_at seat_link k y seats } in
       let stays : open_of new.seats ≡ open_of seats = open-same k s y seats are.apart at sits sits refl in
-      let F : Told → List ServerSeat → Stepped = λ told servers. record { state = record (state_of old told) { servers = servers }; acts = Serves (SendsLine k (ended line)) ∷ [] } in
+      let F : Beside → List ServerSeat → Stepped = λ told servers. record { state = record (state_of old told) { servers = servers }; acts = Serves (SendsLine k (ended line)) ∷ [] } in
       serves old new (SendsLine k (ended line) ∷ []) (λ state. send_step state k line (at_key server_link k state.servers)) (λ told. ap (Step (state_of old told)) (open_seat k s seats are.apart at sits) ∙ ap (F told) (sym stays))
       (come-put old.servers k s y at sits sits (at_key-key seat_link k seats s at)) (told-follows old.servers k s line at sits) (order-put old.servers k s y (SendsLine k (ended line) ∷ []) at sits sits refl)
 
@@ -126,7 +127,7 @@ becomes old k s server are at sits =
     let key : seat_link s ≡ k = at_key-key seat_link k seats s at in
     let G : ℕ → ServerSeat = λ n. record { link = n; server = server } in
     let now : open_of new.seats ≡ put_at server_link k (G k) (open_of seats) = open-put k s y seats at sits sits ∙ ap (λ n. put_at server_link k (G n) (open_of seats)) key in
-    let F : Told → List ServerSeat → Stepped = λ told servers. no_step (record (state_of old told) { servers = servers }) in
+    let F : Beside → List ServerSeat → Stepped = λ told servers. no_step (record (state_of old told) { servers = servers }) in
     serves old new [] (λ state. no_step (with_server state k server)) (λ told. ap (F told) (sym now)) (come-put old.servers k s y at sits sits key) (known-follows old.servers k s server at sits) (order-put old.servers k s y [] at sits sits refl)
 
 -- it begins to leave, whatever its state is then
@@ -137,7 +138,7 @@ leaves old k s server why are at sits =
     let new : ServersView = left_one old.servers k why server s in
     let key : seat_link s ≡ k = at_key-key seat_link k seats s at in
     let now : open_of new.seats ≡ without server_link k (open_of seats) = open-left k s y seats are.apart at sits refl key in
-    let F : Told → List ServerSeat → Stepped = λ told servers. record { state = record (state_of old told) { servers = servers }; acts = Serves (Parts k why) ∷ [] } in
+    let F : Beside → List ServerSeat → Stepped = λ told servers. record { state = record (state_of old told) { servers = servers }; acts = Serves (Parts k why) ∷ [] } in
     serves old new (Parts k why ∷ []) (leave_server k why) (λ told. ap (F told) (sym now)) (come-left old.servers k s server why at sits) (left-follows old.servers k s server why old.servers.left (left_after old.servers) at sits) (order-left old.servers k s server why at sits)
 
 -- a connection is begun
@@ -145,7 +146,7 @@ pub seats : (old : CoreView) (server : ServerState) → AreSeats old.servers →
 seats old server are few =
     let k = old.servers.used + 1 in
     let now = open-push old.servers.seats k server in
-    let F : Told → List ServerSeat → Stepped = λ told servers. record { state = record (state_of old told) { servers = servers; used = k }; acts = Serves (Connects k server.address server.name) ∷ [] } in
+    let F : Beside → List ServerSeat → Stepped = λ told servers. record { state = record (state_of old told) { servers = servers; used = k }; acts = Serves (Connects k server.address server.name) ∷ [] } in
     serves old (begun server old.servers) (Connects k server.address server.name ∷ []) (λ state. seat_step state server) (λ told. ap (F told) (sym now)) (come-begun old.servers server few)
     (begun-follows old.servers server (above_all old.servers.used k (links_of old.servers.seats) (omega arith) are.used)) (order-begun old.servers server)
 
@@ -160,7 +161,7 @@ quits old servers are e =
     let whole : ServersView = record old.servers { seats = map quitting old.servers.seats } in
     let outs = flat_map quit_outs (open_of old.servers.seats) in
     let now : open_of whole.seats ≡ open_of old.servers.seats = may_quit_open old.servers.seats whole.seats (may_quit_all old.servers.seats) in
-    let F : Told → List ServerSeat → Stepped = λ told servers. record { state = record (state_of old told) { servers = servers }; acts = map Serves outs ++ Quits ∷ [] } in
+    let F : Beside → List ServerSeat → Stepped = λ told servers. record { state = record (state_of old told) { servers = servers }; acts = map Serves outs ++ Quits ∷ [] } in
     let P : ServersView → Type 0 = λ servers. Does old (record old { servers = servers; quits = true }) quit_step in
     subst P (sym e)
     (serves-by old whole true outs (Quits ∷ []) quit_step (λ told. ap (F told) (sym now)) (λ j. refl) (λ j. refl) refl (sym (or-true old.quits)) (come-quit old.servers whole.seats (may_quit_all old.servers.seats)) (quit-follows old.servers are.apart) (order-quit old.servers whole.seats (may_quit_all old.servers.seats)))
@@ -174,7 +175,7 @@ quits-starved old new servers m e counts rises =
     let count : new.starved ≡ min (old.starved + 1) (2 ^ 64 - 1) = ap (λ (core : CoreView). core.starved) counts in
     let P : ServersView → Type 0 = λ servers. ServersKeep old.servers servers in
     Does-starved old new quit_step (record {
-      keeps = KeepsClients-connections old new (ap (λ (core : CoreView). core.connections) counts) rises (saves-as old new (record old { servers = servers; quits = true; starved = min (old.starved + 1) (2 ^ 64 - 1) }) counts refl refl) (subst P (sym same) (come-quit old.servers servers.seats m));
+      keeps = KeepsClients-connections old new (ap (λ (core : CoreView). core.connections) counts) rises (saves-as old new (record old { servers = servers; quits = true; starved = min (old.starved + 1) (2 ^ 64 - 1) }) counts refl refl) (subst P (sym same) (come-quit old.servers servers.seats m)) (ap (λ (core : CoreView). core.verdicts) counts);
       causes = λ distinct j. inl (ap (λ (core : CoreView). leaving_on j core.connections) counts);
       counted = λ below. omega (arith, count, below);
     })

@@ -14,6 +14,8 @@ use Rattle.wc_core.proofs.ChangeCloses.{then-closes}
 use Rattle.wc_core.proofs.ServerCloses.{connects_all-closes}
 use Rattle.wc_core.proofs.CloseLemmas.{runs-closes, commands-closes}
 use Rattle.wc_core.proofs.DidLemmas.{or_else-none}
+use Rattle.wc_core.proofs.OracleLemmas.{Agrees-before}
+use Rattle.wc_core.specs.State.{beside}
 
 -- a step that closes none, in the place of another one that closes none
 stays-by : (j : ℕ) (a b : CoreView) (s : Stepped) → close_of j s.acts ≡ None → LeavesBy (leaving_on j a.connections) (close_of j s.acts) (leaving_on j b.connections) → StaysOrStarves (leaving_on j a.connections) (leaving_on j b.connections)
@@ -28,12 +30,12 @@ pub ends-first : (a b : CoreView) (first next : State → Stepped) → ClosesNon
 ends-first a b first next none going quit done = λ told.
     let f = done told in
     let one = first (state_of a told) in
-    let P : Bool → Type 0 = λ t. Follows a b (cond t one (then_does one next)) in
+    let P : Bool → Type 0 = λ t. Follows told a b (cond t one (then_does one next)) in
     record {
       keeps = f.keeps;
       causes = λ distinct j. inr (stays-by j a b one (none j (state_of a told)) (f.causes distinct j));
-      does = λ same below distinct were.
-          let did = f.does same below distinct were in
+      does = λ same below distinct were agrees.
+          let did = f.does same below distinct were agrees in
           subst P (sym (ended a.quits b.quits (has_end one.acts) going did.quits ∙ quit)) did;
     }
 
@@ -45,17 +47,17 @@ goes-on a b c first next none none' going on done more = λ told.
     let one = first (state_of a told) in
     let all = then_does one next in
     let h = Does-then a b c first next none none' done more told in
-    let g = more one.state.told in
-    let P : Bool → Type 0 = λ t. Follows a c (cond t one all) in
+    let g = more (beside one.state) in
+    let P : Bool → Type 0 = λ t. Follows told a c (cond t one all) in
     record {
       keeps = h.keeps;
       causes = λ distinct j. inr (stays-by j a c all (then-closes j one next (none j (state_of a told)) (none' j one.state)) (h.causes distinct j));
-      does = λ same below distinct were.
+      does = λ same below distinct were agrees.
           let p = f.keeps.rises in
           let q = g.keeps.rises in
           let half : b.starved ≡ a.starved = omega arith in
-          let did = f.does half below distinct were in
-          subst P (sym (ended a.quits b.quits (has_end one.acts) going did.quits ∙ on)) (h.does same below distinct were);
+          let did = f.does half below distinct were (Agrees-before told.oracle b.verdicts c.verdicts g.keeps.verdicts agrees) in
+          subst P (sym (ended a.quits b.quits (has_end one.acts) going did.quits ∙ on)) (h.does same below distinct were agrees);
     }
 
 -- a command that ran `/quit`
@@ -77,16 +79,40 @@ pub starts-more : (a b c : CoreView) (commands : List (List ℕ)) → a.quits �
 starts-more a b c commands going on done more =
     goes-on a b c (λ state. commands_step state commands) connect_all_step (λ j state. commands-closes j state commands) (λ j state. connects_all-closes j state) going on done more
 
+-- what is done as if no `/quit` had been run before
+pub goes-aside : (old mid : CoreView) (quit' quit : Bool) (step : State → Stepped) → quit' ≡ false → quit ≡ old.quits → Does (record old { quits = quit' }) mid step → Does old (record mid { quits = mid.quits || quit }) step
+goes-aside old mid quit' quit step going was done =
+    let P : Bool → Type 0 = λ quits. Does (record old { quits = quits }) mid step in
+    let Q : Bool → Type 0 = λ quit. Does old (record mid { quits = mid.quits || quit }) step in
+    subst Q (sym was) (aside (subst P going done))
+  where
+    or-turned : (a b : Bool) → ((false || a) || b) ≡ (b || a)
+    or-turned true true = refl
+    or-turned true false = refl
+    or-turned false true = refl
+    or-turned false false = refl
+
+    aside : Does (record old { quits = false }) mid step → Does old (record mid { quits = mid.quits || old.quits }) step
+    aside done = λ told.
+        let f = done told in
+        record {
+          keeps = record { rises = f.keeps.rises; links = f.keeps.links; kept = f.keeps.kept; saves = f.keeps.saves; servers = f.keeps.servers; verdicts = f.keeps.verdicts };
+          causes = f.causes;
+          does = λ same below distinct were agrees.
+              let g = f.does same below distinct were agrees in
+              record { means = record { same = g.means.same; told = g.means.told }; oracle = g.oracle; bytes = g.bytes; leaving = g.leaving; quits = ap (λ t. t || old.quits) g.quits ∙ or-turned _ old.quits; servers = g.servers; parts = g.parts };
+        }
+
 -- the start sets the moment, and its commands are run as if no `/quit` had been run before
 pub started : (old new : CoreView) (moment : ℕ) → Does (record old { moment = moment; commands = []; quits = false }) new (λ state. start_step state old.commands) → Does old (record new { quits = new.quits || old.quits }) (λ state. start_step (record state { moment = moment; commands = [] }) state.commands)
 started old new moment done = λ told.
     let f = done told in
     record {
-      keeps = record { rises = f.keeps.rises; links = f.keeps.links; kept = f.keeps.kept; saves = f.keeps.saves; servers = f.keeps.servers };
+      keeps = record { rises = f.keeps.rises; links = f.keeps.links; kept = f.keeps.kept; saves = f.keeps.saves; servers = f.keeps.servers; verdicts = f.keeps.verdicts };
       causes = f.causes;
-      does = λ same below distinct were.
-          let g = f.does same below distinct were in
-          record { means = record { same = g.means.same; told = g.means.told }; bytes = g.bytes; leaving = g.leaving; quits = ap (λ t. t || old.quits) g.quits ∙ or-turned _ old.quits; servers = g.servers; parts = g.parts };
+      does = λ same below distinct were agrees.
+          let g = f.does same below distinct were agrees in
+          record { means = record { same = g.means.same; told = g.means.told }; oracle = g.oracle; bytes = g.bytes; leaving = g.leaving; quits = ap (λ t. t || old.quits) g.quits ∙ or-turned _ old.quits; servers = g.servers; parts = g.parts };
     }
   where
     or-turned : (a b : Bool) → (a || b) ≡ (b || a)

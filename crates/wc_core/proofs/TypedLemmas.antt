@@ -19,8 +19,10 @@ use Rattle.wc_text.specs.Words.{is_filled}
 use Rattle.wc_model.specs.declared.change.What.TheVariants as what
 use Rattle.wc_core.specs.Texts.{WhatUtf8}
 use Rattle.wc_core.specs.Step.{other_of}
-use Rattle.wc_core.specs.Typed.{TypedCommand, Nothing, Quits, Refused, Others, Prints, Adds, Closes, Merges, Names, Changes, Sets, Unsets, no_text_here, wrong_arguments, unknown_command, print_unless_empty, print_words, tags_of, is_first, second_of, after_second, print_tagged, print_on, print_command, wrong_buffer, one_word, without_words, some_text, moves_to, close_command, starts, set_property, buffer_word, buffer_command, quit_command, set_option, set_command, unset_command, option_command, command, slash_command, typed_line, lines_parted, lines_of_text, Switches, switch_command, input_command, Saves, save_command}
+use Rattle.wc_core.specs.Typed.{TypedCommand, Nothing, Quits, Refused, Others, Prints, Adds, Closes, Merges, Names, Changes, Sets, Unsets, no_text_here, wrong_arguments, unknown_command, print_unless_empty, print_words, tags_of, is_first, second_of, after_second, print_tagged, print_on, print_command, wrong_buffer, one_word, without_words, some_text, moves_to, close_command, starts, set_property, buffer_word, buffer_command, quit_command, set_option, set_command, unset_command, option_command, command, slash_command, typed_line, lines_parted, lines_of_text, Switches, switch_command, input_command, Saves, save_command, Evaluates, eval_text, eval_printed, eval_command, evaluation_of}
 use Rattle.wc_core.specs.TypedSeen.{lines_left, LeftUtf8}
+use Rattle.wc_core.specs.declared.typed_eval.EvalUse.{EvalUse}
+use Rattle.wc_core.specs.declared.typed_eval.EvalUse.TheVariants as eval
 
 -- whether each byte is ASCII
 abbrev pub all_ascii : List ℕ → Bool
@@ -56,6 +58,7 @@ TypedUtf8 (Sets name value) = IsUtf8 name × IsUtf8 value
 TypedUtf8 (Unsets name) = IsUtf8 name
 TypedUtf8 (Switches name) = Unit {0}
 TypedUtf8 Saves = Unit {0}
+TypedUtf8 (Evaluates usage text) = IsUtf8 text
 
 typed_if : (b : Bool) (x y : TypedCommand) → TypedUtf8 x → TypedUtf8 y → TypedUtf8 (cond b x y)
 typed_if true x y p q = p
@@ -220,12 +223,25 @@ input_text text =
     typed_if (bytes_eq text (codes "set_unread_current_buffer")) _ _ tt
     (typed_if (bytes_eq text (codes "hotlist_clear")) _ _ tt (unknown_text (codes "input") (ascii_text (codes "input") refl)))
 
+eval_use_text : (usage : EvalUse) (text : List ℕ) → IsUtf8 text → TypedUtf8 (eval_text usage text)
+eval_use_text usage [] utf8 = wrong_text (codes "eval") (ascii_text (codes "eval") refl)
+eval_use_text usage (b ∷ text) utf8 = utf8
+
+eval_printed_text : (text : List ℕ) → IsUtf8 text → TypedUtf8 (eval_printed text)
+eval_printed_text text utf8 =
+    typed_if (is_first (codes "-c") text) (eval_text eval.Test (rest_of text)) (eval_text eval.Print text) (eval_use_text eval.Test (rest_of text) (word_text text utf8).1) (eval_use_text eval.Print text utf8)
+
+eval_command_text : (text : List ℕ) → IsUtf8 text → TypedUtf8 (eval_command text)
+eval_command_text text utf8 =
+    typed_if (is_first (codes "-n") text) (eval_printed (rest_of text)) (eval_text eval.Run text) (eval_printed_text (rest_of text) (word_text text utf8).1) (eval_use_text eval.Run text utf8)
+
 command_text : (name text : List ℕ) → IsUtf8 name → IsUtf8 text → TypedUtf8 (command name text)
 command_text name text n t =
     typed_if (bytes_eq name (codes "print")) _ _ (print_text text t)
     (typed_if (bytes_eq name (codes "buffer")) _ _ (buffer_text text t)
     (typed_if (bytes_eq name (codes "quit")) _ _ (quit_text text)
-    (typed_if (bytes_eq name (codes "input")) _ _ (input_text text) (options_text name text n t))))
+    (typed_if (bytes_eq name (codes "input")) _ _ (input_text text)
+    (typed_if (bytes_eq name (codes "eval")) _ _ (eval_command_text text t) (options_text name text n t)))))
 
 slashed_text : (text : List ℕ) → IsUtf8 text → TypedUtf8 (slash_command text)
 slashed_text [] utf8 = command_text [] [] IsUtf8-nil IsUtf8-nil
@@ -295,3 +311,24 @@ others_text (Sets name value) text utf8 e = absurd (cc)
 others_text (Unsets name) text utf8 e = absurd (cc)
 others_text (Switches name) text utf8 e = absurd (cc)
 others_text Saves text utf8 e = absurd (cc)
+others_text (Evaluates usage value) text utf8 e = absurd (cc)
+
+-- the text that a line evaluates is text
+pub evaluated_text : (typed : TypedCommand) (usage : EvalUse) (text : List ℕ) → TypedUtf8 typed → Some (usage, text) ≡ evaluation_of typed → IsUtf8 text
+evaluated_text (Evaluates kind value) usage text utf8 e = subst IsUtf8 (same_text (usage, text) (kind, value) e) utf8 where
+  same_text : (a b : EvalUse × List ℕ) → Some a ≡ Some b → b.1 ≡ a.1
+  same_text a b e = cc
+evaluated_text Nothing usage text utf8 e = absurd (cc)
+evaluated_text Quits usage text utf8 e = absurd (cc)
+evaluated_text (Refused t) usage text utf8 e = absurd (cc)
+evaluated_text (Others t) usage text utf8 e = absurd (cc)
+evaluated_text (Prints buffer tags prefix message) usage text utf8 e = absurd (cc)
+evaluated_text (Adds name) usage text utf8 e = absurd (cc)
+evaluated_text (Closes buffer) usage text utf8 e = absurd (cc)
+evaluated_text (Merges buffer) usage text utf8 e = absurd (cc)
+evaluated_text (Names name) usage text utf8 e = absurd (cc)
+evaluated_text (Changes w) usage text utf8 e = absurd (cc)
+evaluated_text (Sets name value) usage text utf8 e = absurd (cc)
+evaluated_text (Unsets name) usage text utf8 e = absurd (cc)
+evaluated_text (Switches name) usage text utf8 e = absurd (cc)
+evaluated_text Saves usage text utf8 e = absurd (cc)

@@ -5,6 +5,7 @@ use Rattle.wc_options.specs.Options.{OptionsValue}
 use Rattle.wc_model.specs.World.{World}
 use Rattle.wc_board.specs.declared.connection.Connection.{Connection}
 use Rattle.wc_servers.specs.Seats.{ServersView}
+use Rattle.wc_eval.specs.Verdicts.{VerdictsView}
 
 pub record CoreView : Type 0 where
   pub options : OptionsValue
@@ -22,6 +23,8 @@ pub record CoreView : Type 0 where
   pub unwritten : Bool
   -- the servers that have a link, or are to have one
   pub servers : ServersView
+  -- the texts that were judged as patterns
+  pub verdicts : VerdictsView
   -- whether servers are connected by themselves at the start
   pub connects : Bool
   -- how often memory was refused

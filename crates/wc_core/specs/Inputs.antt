@@ -7,8 +7,7 @@ use Rattle.wc_model.specs.declared.change.Change.{Change}
 use Rattle.wc_model.specs.declared.refused.ChangeRefused.{ChangeRefused}
 use Rattle.wc_model.specs.Apply.{refusal}
 use Rattle.wc_core.specs.CoreView.{CoreView}
-use Rattle.wc_core.specs.Typed.{typed_line}
-use Rattle.wc_core.specs.Step.{no_step, push_step, change_step, input_step, is_quit, lines_step}
+use Rattle.wc_core.specs.Step.{no_step, push_step, change_step, input_step, lines_step}
 use Rattle.wc_core.specs.ServerSteps.{taken_step}
 use Rattle.wc_ircmsg.specs.declared.message.Message.{Message}
 use Rattle.wc_servers.specs.Seats.{ServerSeat}
@@ -20,8 +19,9 @@ use Rattle.wc_board.specs.declared.connection.Connection.{Connection}
 use Rattle.wc_board.specs.Answered.{is_nicklist, AnsweredAt}
 use Rattle.wc_board.specs.Connections.{connection_link, is_open}
 use Rattle.wc_board.specs.Told.{AreSameTouches}
-use Rattle.wc_core.specs.State.{State, Stepped}
-use Rattle.wc_core.specs.Served.{Does}
+use Rattle.wc_eval.specs.Verdicts.{Agrees, Stay}
+use Rattle.wc_core.specs.State.{State, Beside, Stepped}
+use Rattle.wc_core.specs.Served.{Does, state_of}
 use Rattle.wc_core.specs.Served.{RanOutOfMemory}
 
 -- a change is made and told, or memory was refused
@@ -66,10 +66,21 @@ taken_at state link m (Some seat) = taken_step state link seat.server m
 
 -- after a line that is typed into a buffer the others are run
 pub record GoesOn (old new : CoreView) (buffer : Handle) (line : List ℕ) : Type 0 where
-  pub goes : is_quit (typed_line line) ≡ false
+  pub goes : new.quits ≡ false
   pub does : Does old new (λ state. input_step state buffer line)
 
 -- the lines after it are skipped
 abbrev pub Stops : CoreView → CoreView → Handle → List ℕ → Type 0
 Stops old new buffer line = (lines : List (List ℕ)) → is_there buffer old.world.groups ≡ true →
     Does old new (λ state. lines_step state buffer (line ∷ lines))
+
+-- texts may be judged as patterns, and nothing else becomes another one
+pub record Judges (old new : CoreView) : Type 0 where
+  pub only : new ≡ record old { verdicts = new.verdicts }
+  pub stay : Stay old.verdicts new.verdicts
+
+-- this is what something comes to in the state that the core meant, whatever is thought of texts
+-- that were not judged
+abbrev pub Values : {X : Type 0} → CoreView → CoreView → X → (State → X) → Type 0
+Values old new value of = (told : Beside) → Agrees told.oracle new.verdicts →
+    value ≡ of (state_of old told)

@@ -1,4 +1,6 @@
 pub mod Changing
+pub mod Evaluated
+pub mod EvaluatedSeen
 pub mod Events
 pub mod Inputs
 pub mod Limits

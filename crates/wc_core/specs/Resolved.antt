@@ -23,7 +23,7 @@ use Rattle.wc_options.specs.declared.refusal.SetRefused.{SetRefused}
 use Rattle.wc_options.specs.declared.refusal.SetRefused.TheVariants as option
 use Rattle.wc_session.specs.Names.{buffer_named}
 use Rattle.wc_core.specs.Typed.{TypedCommand, Nothing, Quits, Refused, Others, Prints, Adds, Closes}
-use Rattle.wc_core.specs.Typed.{Merges, Names, Changes, Sets, Unsets, Switches, Saves}
+use Rattle.wc_core.specs.Typed.{Merges, Names, Changes, Sets, Unsets, Switches, Saves, Evaluates}
 
 pub data Effect : Type 0 where
   Stays : Effect
@@ -134,6 +134,7 @@ effect_of world moment buffer (Sets name value) = SetsOption name value
 effect_of world moment buffer (Unsets name) = UnsetsOption name
 effect_of world moment buffer (Switches name) = switched (buffer_meant world.groups name)
 effect_of world moment buffer Saves = SavesOptions
+effect_of world moment buffer (Evaluates usage text) = Stays
 
 -- ---- the texts of refusals
 

@@ -1,6 +1,6 @@
 -- How the core follows what it is to do.
 use Rattle.std.specs.Prelude.{◌≡◌, ℕ, ◌-◌, ◌^◌, ◌<◌, ◌≤◌}
-use Rattle.std.specs.Prelude.{true, ◌||◌, ◌⊎◌, IfSome, if◌then◌else◌, ◌==◌, List, []}
+use Rattle.std.specs.Prelude.{true, false, ◌||◌, ◌⊎◌, IfSome, if◌then◌else◌, ◌==◌, List, []}
 use Rattle.std.specs.Prelude.{◌∷◌, ◌++◌, map, Option, Some, None, IsSome}
 use Rattle.wc_text.specs.declared.names.Cause.{Cause}
 use Rattle.wc_text.specs.declared.names.Cause.TheVariants.{NoMemory}
@@ -15,11 +15,13 @@ use Rattle.wc_core.specs.CoreView.{CoreView}
 use Rattle.wc_board.specs.declared.connection.Connection.{Connection}
 use Rattle.wc_board.specs.Connections.{connection_link, is_open, unsent_on, leaving_on}
 use Rattle.wc_board.specs.Served.{StaysOrStarves}
-use Rattle.wc_board.specs.Told.{Told, told_of, AreTold}
+use Rattle.wc_board.specs.Told.{told_of, AreTold}
+use Rattle.wc_eval.specs.Verdicts.{Agrees, Stay}
 use Rattle.wc_servers.specs.Outs.{Out, ServersFollow}
 use Rattle.wc_servers.specs.Seats.{open_of, used_up}
 use Rattle.wc_core.specs.ServersKept.{ServersKeep, LeaveInOrder}
-use Rattle.wc_core.specs.State.{State, Act, Sends, Closes, Serves, Quits, Stepped, has_end}
+use Rattle.wc_core.specs.State.{State, Beside, beside, Act, Sends, Closes, Serves, Quits, Stepped}
+use Rattle.wc_core.specs.State.{has_end}
 
 abbrev pub links_of : CoreView → List ℕ
 links_of core = map connection_link core.connections
@@ -30,30 +32,35 @@ clients_of [] = []
 clients_of (connection ∷ connections) = if is_open connection
     then connection.session.client ∷ clients_of connections else clients_of connections
 
--- the state that the core means where these rows were told
-abbrev pub state_of : CoreView → Told → State
+-- the state that the core means where these rows were told, and texts are judged so
+abbrev pub state_of : CoreView → Beside → State
 state_of core told = record {
   options = core.options;
   clients = clients_of core.connections;
   world = core.world;
-  told = told;
+  told = told.rows;
   moment = core.moment;
   commands = core.commands;
   saved = core.saved;
   servers = open_of core.servers.seats;
   used = core.servers.used;
   connects = core.connects;
+  oracle = told.oracle;
 }
 
--- these rows were told, by what was touched since then
-abbrev pub WereTold : CoreView → Told → Type 0
-WereTold core told = AreTold core.world core.pending (told_of told)
+-- what may be so of each core: its rows were told, and no text is a pattern
+abbrev pub plain_beside : CoreView → Beside
+plain_beside core = record { rows = core.world.nicks; oracle = λ text. false }
 
--- The core means a state: but for the rows that were told it has all of it, and these are known by
--- what was touched.
+-- these rows were told, by what was touched since then
+abbrev pub WereTold : CoreView → Beside → Type 0
+WereTold core told = AreTold core.world core.pending (told_of told.rows)
+
+-- The core means a state: but for the rows that were told and the oracle it has all of it, and the
+-- rows are known by what was touched.
 pub record Means (core : CoreView) (state : State) : Type 0 where
-  pub same : state ≡ state_of core state.told
-  pub told : WereTold core state.told
+  pub same : state ≡ state_of core (beside state)
+  pub told : WereTold core (beside state)
 
 -- ---- what the acts do to a link
 
@@ -116,11 +123,12 @@ abbrev pub Distinct : List ℕ → Type 0
 Distinct [] = Unit {0}
 Distinct (n ∷ ns) = Absent n ns × Distinct ns
 
--- The core after a step: it means the state that the step comes to, the bytes for each client come
--- after its unsent ones, the clients that the acts close are leaving, and what goes out for servers
--- is put where it waits, in order.
-pub record Follows (old new : CoreView) (stepped : Stepped) : Type 0 where
+-- The core after a step: it means the state that the step comes to, the oracle is the same, the bytes
+-- for each client come after its unsent ones, the clients that the acts close are leaving, and what
+-- goes out for servers is put where it waits, in order.
+pub record Follows (told : Beside) (old new : CoreView) (stepped : Stepped) : Type 0 where
   pub means : Means new stepped.state
+  pub oracle : stepped.state.oracle ≡ told.oracle
   pub bytes : (link : ℕ) → unsent_on link new.connections ≡ unsent_on link old.connections
       ++ sent_to link stepped.acts
   pub leaving : (link : ℕ) → leaving_on link new.connections
@@ -143,7 +151,8 @@ abbrev pub unwritten_of : CoreView → Option (List ℕ)
 unwritten_of core = if core.unwritten then core.saved else None
 
 -- what holds also where memory was refused: the same links have a client, a client that is leaving
--- stays as it is, servers come as they were begun and none goes, and what was saved is not lost
+-- stays as it is, servers come as they were begun and none goes, what was saved is not lost, and each
+-- verdict stays
 pub record KeepsClients (old new : CoreView) : Type 0 where
   pub rises : old.starved ≤ new.starved
   pub links : links_of new ≡ links_of old
@@ -151,6 +160,7 @@ pub record KeepsClients (old new : CoreView) : Type 0 where
       at_key connection_link link new.connections ≡ at_key connection_link link old.connections
   pub saves : KeepsSaved old new
   pub servers : ServersKeep old.servers new.servers
+  pub verdicts : Stay old.verdicts new.verdicts
 
 -- nothing but the buffers, the touches of their nicklists, clients, and the count of want of memory
 -- becomes another one
@@ -173,20 +183,20 @@ ChangesServers old new = new ≡ record old {
 }
 
 -- The step of the state that the core meant where these rows were told is done, unless some growth
--- was refused. Who begins to leave does so for the cause that the step's acts give, or for want of
--- memory.
-pub record FollowsUnlessStarved (told : Told) (old new : CoreView) (stepped : Stepped) :
+-- was refused: that of each oracle that agrees with the verdicts that the core holds after it. Who
+-- begins to leave does so for the cause that the step's acts give, or for want of memory.
+pub record FollowsUnlessStarved (told : Beside) (old new : CoreView) (stepped : Stepped) :
     Type 0 where
   pub keeps : KeepsClients old new
   pub causes : Distinct (links_of old) → (link : ℕ) → LeavesBy (leaving_on link old.connections)
       (close_of link stepped.acts) (leaving_on link new.connections)
   pub does : new.starved ≡ old.starved → old.starved < 2 ^ 64 - 1 → Distinct (links_of old) →
-      WereTold old told → Follows old new stepped
+      WereTold old told → Agrees told.oracle new.verdicts → Follows told old new stepped
 
 -- whatever state the core meant before, it means the step of it after, unless some growth was
 -- refused
 abbrev pub Does : CoreView → CoreView → (State → Stepped) → Type 0
-Does old new step = (told : Told) → FollowsUnlessStarved told old new (step (state_of old told))
+Does old new step = (told : Beside) → FollowsUnlessStarved told old new (step (state_of old told))
 
 -- memory was refused, and that was counted
 pub record RanOutOfMemory (old new : CoreView) : Type 0 where
@@ -213,9 +223,10 @@ abbrev pub connections_after : List Connection → List Connection → ℕ → O
 connections_after old new link None = map connection_link new ≡ map connection_link old ++ link ∷ []
 connections_after old new link (Some cause) = new ≡ old
 
-pub record AdmitsUnlessStarved (told : Told) (link : ℕ) (old new : CoreView)
+pub record AdmitsUnlessStarved (told : Beside) (link : ℕ) (old new : CoreView)
     (refused : Option Cause) (stepped : Stepped) : Type 0 where
   pub rises : old.starved ≤ new.starved
+  pub oracle : stepped.state.oracle ≡ told.oracle
   pub connections : connections_after old.connections new.connections link refused
   pub servers : new.servers ≡ used_up link old.servers
   pub kept : (other : ℕ) → IsSome (leaving_on other old.connections) →

@@ -7,6 +7,7 @@ use Rattle.wc_model.specs.World.{World, first_world}
 use Rattle.wc_objects.specs.declared.object.WireMessage.{WireMessage}
 use Rattle.wc_session.specs.declared.client.Client.{Client}
 use Rattle.wc_board.specs.Told.{Told, told_of}
+use Rattle.wc_eval.specs.Verdicts.{Oracle}
 use Rattle.wc_servers.specs.Outs.{Out}
 use Rattle.wc_servers.specs.Seats.{ServerSeat}
 
@@ -31,6 +32,17 @@ pub record State : Type 0 where
   pub used : ℕ
   -- whether servers are connected by themselves at the start
   pub connects : Bool
+  -- whether each text is a pattern, which nothing changes
+  pub oracle : Oracle
+
+-- What a state has that the core has in part: the rows that were pushed last, which it knows by what
+-- was touched since then, and whether each text is a pattern, which it knows of those that it judged.
+pub record Beside : Type 0 where
+  pub rows : Told
+  pub oracle : Oracle
+
+abbrev pub beside : State → Beside
+beside state = record { rows = state.told; oracle = state.oracle }
 
 -- what the core asks of the loop
 pub data Act : Type 0 where
@@ -58,8 +70,8 @@ pub record Stepped : Type 0 where
   pub acts : List Act
 
 -- no client, and the core buffer alone, whose lines are bounded, before these commands are run
-abbrev pub first_state : OptionsValue → ℕ → List (List ℕ) → State
-first_state options limit commands = record {
+abbrev pub first_state : Oracle → OptionsValue → ℕ → List (List ℕ) → State
+first_state oracle options limit commands = record {
   options = options;
   clients = [];
   world = first_world limit;
@@ -70,6 +82,7 @@ first_state options limit commands = record {
   servers = [];
   used = 0;
   connects = true;
+  oracle = oracle;
 }
 
 abbrev pub told_at : State → ℕ → List Row

@@ -1,6 +1,7 @@
 -- What the core does at each event.
-use Rattle.std.specs.Prelude.{ℕ, Bool, true, false, not, max, ◌&&◌, List, [], ◌∷◌, ◌++◌, length}
+use Rattle.std.specs.Prelude.{ℕ, zero, suc, Bool, not, max, ◌&&◌, List, [], ◌∷◌, ◌++◌, length}
 use Rattle.std.specs.Prelude.{nat_lt, if◌then◌else◌, Option, Some, None}
+use Rattle.std.specs.Str.{is_utf8}
 use Rattle.wc_text.specs.declared.names.Handle.{Handle}
 use Rattle.wc_text.specs.declared.names.Cause.{Cause}
 use Rattle.wc_text.specs.declared.names.Cause.TheVariants.{Ended, Failed, Surplus}
@@ -21,7 +22,10 @@ use Rattle.wc_core.specs.Resolved.{Effect, Stays, Ends as ResolvedEnds, Tells, A
 use Rattle.wc_core.specs.Resolved.{UnsetsOption, SavesOptions, effect_of}
 use Rattle.wc_core.specs.State.{State, Closes, Stepped, has_end}
 use Rattle.wc_board.specs.Answered.{is_nicklist}
-use Rattle.wc_core.specs.Typed.{TypedCommand, Quits as TypedQuits, Others, typed_line, lines_of_text}
+use Rattle.wc_core.specs.Evaluated.{value_at, holds_at, answer_text, printed_value}
+use Rattle.wc_core.specs.declared.typed_eval.EvalUse.{EvalUse}
+use Rattle.wc_core.specs.declared.typed_eval.EvalUse.TheVariants as eval
+use Rattle.wc_core.specs.Typed.{TypedCommand, Others, typed_line, lines_of_text, evaluation_of}
 pub use Rattle.wc_core.specs.Changing.{client_link, core_buffer, no_step, then_does, sends, told_to}
 pub use Rattle.wc_core.specs.Changing.{tell_all_step, change_step, change_step_if, refusal_step}
 pub use Rattle.wc_core.specs.Changing.{ask_step_if, ask_step, pushed_to, push_at, pushes_of}
@@ -56,13 +60,61 @@ abbrev pub input_by : State → Handle → List ℕ → Option (List ℕ) → St
 input_by state buffer line None = typed_step state buffer (typed_line line)
 input_by state buffer line (Some text) = served_line_step state buffer line text
 
--- one line that is typed into a buffer
-abbrev pub input_step : State → Handle → List ℕ → Stepped
-input_step state buffer line = input_by state buffer line (other_of (typed_line line))
+-- one line that evaluates nothing
+abbrev pub plain_step : State → Handle → List ℕ → Stepped
+plain_step state buffer line = input_by state buffer line (other_of (typed_line line))
 
-abbrev pub is_quit : TypedCommand → Bool
-is_quit TypedQuits = true
-is_quit _ = false
+-- ---- what is evaluated
+
+-- how a line is run that is typed into a buffer
+abbrev pub Input : Type 0
+Input = State → Handle → List ℕ → Stepped
+
+-- what becomes of a text that is evaluated on a buffer
+abbrev pub Evaluation : Type 0
+Evaluation = State → Handle → EvalUse → List ℕ → Stepped
+
+-- a value is run as an input, where it is text, as each value is
+abbrev pub run_value : Input → Input
+run_value deeper state buffer value = if is_utf8 value then deeper state buffer value
+    else no_step state
+
+-- an `/eval`, inside which an input is run so
+abbrev pub eval_step : Input → Evaluation
+eval_step deeper state buffer eval.Run text =
+    run_value deeper state buffer (value_at state buffer text)
+eval_step deeper state buffer eval.Print text =
+    ask_step state (printed_value state.moment (value_at state buffer text))
+eval_step deeper state buffer eval.Test text =
+    ask_step state (printed_value state.moment (answer_text (holds_at state buffer text)))
+
+abbrev pub no_evaluation : Evaluation
+no_evaluation state buffer usage text = no_step state
+
+abbrev pub evaluated_by : Evaluation → State → Handle → List ℕ → Option (EvalUse × List ℕ) →
+    Stepped
+evaluated_by evaluate state buffer line None = plain_step state buffer line
+evaluated_by evaluate state buffer line (Some (usage, text)) = evaluate state buffer usage text
+
+-- one line, where this becomes of a text that is evaluated
+abbrev pub input_with : Evaluation → Input
+input_with evaluate state buffer line =
+    evaluated_by evaluate state buffer line (evaluation_of (typed_line line))
+
+-- an `/eval`, where so many may still be inside one another; one more does nothing
+unfoldable pub evaluation_at : ℕ → Evaluation
+evaluation_at zero = no_evaluation
+evaluation_at (suc levels) = eval_step (input_with (evaluation_at levels))
+
+-- one line that is typed into a buffer, where so many `/eval`s may still be inside one another
+abbrev pub input_at : ℕ → Input
+input_at levels = input_with (evaluation_at levels)
+
+-- one line that is typed into a buffer
+abbrev pub input_step : Input
+input_step = input_at 32
+
+-- ---- lines
 
 -- The lines that are typed into a buffer, one after another. After a `/quit` nothing is done, and
 -- once the buffer is closed neither.
@@ -70,8 +122,9 @@ abbrev pub lines_step : State → Handle → List (List ℕ) → Stepped
 lines_step state buffer [] = no_step state
 lines_step state buffer (line ∷ lines) =
     if not (is_there buffer state.world.groups) then no_step state else (
-    if is_quit (typed_line line) then input_step state buffer line
-    else then_does (input_step state buffer line) (λ next. lines_step next buffer lines))
+    let first = input_step state buffer line in
+    if has_end first.acts then first
+    else then_does first (λ next. lines_step next buffer lines))
 
 -- ---- clients
 

@@ -9,6 +9,8 @@ use Rattle.wc_text.specs.Words.{is_filled}
 use Rattle.wc_text.specs.Splits.{before, text_after, word_of, rest_of}
 use Rattle.wc_model.specs.declared.change.What.{What}
 use Rattle.wc_model.specs.declared.change.What.TheVariants as what
+use Rattle.wc_core.specs.declared.typed_eval.EvalUse.{EvalUse}
+use Rattle.wc_core.specs.declared.typed_eval.EvalUse.TheVariants as eval
 
 pub data TypedCommand : Type 0 where
   Nothing : TypedCommand
@@ -37,6 +39,8 @@ pub data TypedCommand : Type 0 where
   Switches : List ℕ → TypedCommand
   -- the options are to be saved
   Saves : TypedCommand
+  -- a text that is evaluated, and what becomes of it
+  Evaluates : EvalUse → List ℕ → TypedCommand
 
 -- the lines of a text, which LFs part, where `line` is before the text
 abbrev pub lines_parted : List ℕ → List ℕ → List (List ℕ)
@@ -200,6 +204,22 @@ option_command name rest =
     if bytes_eq name (codes "unset") then unset_command rest else (
     if bytes_eq name (codes "save") then save_command rest else unknown_command name))
 
+-- ---- `/eval`
+
+-- the text is not empty
+abbrev pub eval_text : EvalUse → List ℕ → TypedCommand
+eval_text usage [] = wrong_arguments (codes "eval")
+eval_text usage (b ∷ text) = Evaluates usage (b ∷ text)
+
+-- after `-n` a condition may come after `-c`
+abbrev pub eval_printed : List ℕ → TypedCommand
+eval_printed text = if is_first (codes "-c") text then eval_text eval.Test (rest_of text)
+    else eval_text eval.Print text
+
+abbrev pub eval_command : List ℕ → TypedCommand
+eval_command text = if is_first (codes "-n") text then eval_printed (rest_of text)
+    else eval_text eval.Run text
+
 -- ---- commands
 
 -- `/quit` has no words after it
@@ -218,7 +238,8 @@ command name rest =
     if bytes_eq name (codes "print") then print_command rest else (
     if bytes_eq name (codes "buffer") then buffer_command rest else (
     if bytes_eq name (codes "quit") then quit_command rest else (
-    if bytes_eq name (codes "input") then input_command rest else option_command name rest)))
+    if bytes_eq name (codes "input") then input_command rest else (
+    if bytes_eq name (codes "eval") then eval_command rest else option_command name rest))))
 
 -- what one line asks for after a `/`
 abbrev pub slash_command : List ℕ → TypedCommand
@@ -230,3 +251,8 @@ slash_command (b ∷ text) = if b == 47 then no_text_here
 unfoldable pub typed_line : List ℕ → TypedCommand
 typed_line [] = Nothing
 typed_line (b ∷ text) = if b == 47 then slash_command text else no_text_here
+
+-- the text that is evaluated, and what becomes of it
+abbrev pub evaluation_of : TypedCommand → Option (EvalUse × List ℕ)
+evaluation_of (Evaluates usage text) = Some (usage, text)
+evaluation_of _ = None

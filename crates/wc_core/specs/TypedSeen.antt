@@ -14,7 +14,9 @@ use Rattle.wc_core.specs.declared.typed_buffer.Property.TheVariants as propertie
 use Rattle.wc_core.specs.declared.typed.CommandText.{CommandText}
 use Rattle.wc_core.specs.declared.typed.CommandText.TheVariants as asked
 use Rattle.wc_core.specs.Typed.{TypedCommand, Nothing, Quits, Refused, Others, Prints, Adds, Closes}
-use Rattle.wc_core.specs.Typed.{Merges, Names, Changes, Sets, Unsets, Switches, Saves, lines_of_text, tags_of}
+use Rattle.wc_core.specs.declared.typed_eval.EvalUse.{EvalUse}
+use Rattle.wc_core.specs.Typed.{Merges, Names, Changes, Sets, Unsets, Switches, Saves, Evaluates}
+use Rattle.wc_core.specs.Typed.{lines_of_text, tags_of}
 use Rattle.wc_core.specs.Typed.{wrong_buffer, some_text, without_words, starts}
 
 -- a word that was found
@@ -47,11 +49,17 @@ meaning (asked.SetOption name value) = Sets name.now value.now
 meaning (asked.UnsetOption name) = Unsets name.now
 meaning (asked.Switch name) = Switches name.now
 meaning asked.Save = Saves
+meaning (asked.Eval usage text) = Evaluates usage text.now
 
 -- two texts that were found, as one
 abbrev pub texts_in : Option (Bor (List ℕ) × Bor (List ℕ)) → Option (List ℕ)
 texts_in None = None
 texts_in (Some (front, name)) = Some (front.now ++ name.now)
+
+-- a text that is evaluated
+abbrev pub evaluation_in : Option (EvalUse × Bor (List ℕ)) → Option (EvalUse × List ℕ)
+evaluation_in None = None
+evaluation_in (Some (usage, text)) = Some (usage, text.now)
 
 -- ---- the words of `/buffer`
 

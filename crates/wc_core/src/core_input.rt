@@ -5,8 +5,7 @@ ghost use Rattle.std.specs.Str.{IsUtf8};
 ghost use Rattle.wc_buffers.specs.Calls.{is_there};
 ghost use Rattle.wc_world.specs.Texts.{IsChangeText};
 ghost use Rattle.wc_core.specs.Typed.{typed_line, lines_of_text};
-ghost use Rattle.wc_core.specs.Step.{refusal_step, ask_step, typed_step, input_step, is_quit};
-ghost use Rattle.wc_core.specs.Step.{lines_step};
+ghost use Rattle.wc_core.specs.Step.{refusal_step, ask_step, typed_step, input_step, lines_step};
 ghost use Rattle.wc_core.specs.Texts.{WhatUtf8};
 ghost use Rattle.wc_core.specs.Served.{Does, ChangesBuffers};
 ghost use Rattle.wc_core.specs.Inputs.{MakesChange, RefusesChange, GoesOn, Stops};
@@ -14,15 +13,32 @@ ghost use Rattle.wc_core.specs.Inputs.{MakesChange, RefusesChange, GoesOn, Stops
 use crate::core_state::Core;
 use crate::refusals::refusal_text;
 use crate::resolve::{Resolution, resolve, told_refusal};
-use crate::typed::{other_in, read_typed};
+use crate::typed::read_typed;
+use std::mem;
 use wc_model::{Change, ChangeRefused};
 use wc_text::{Handle, NoMemory, Text, split_once};
 
+/// The most `/eval`s that may be inside one another.
+const MOST_EVALS: u32 = 32;
+
 impl Core {
+    /// Runs a text that a client types into a buffer, line by line, also where `/quit` was run
+    /// before.
+    pub(crate) fn run_input(&mut self, buffer: Handle, text: &[u8])
+        requires { IsUtf8 text.now }
+        ensures { Does self.old self.new
+            (λ state. lines_step state buffer (lines_of_text text.now)) }
+    {
+        let quit = mem::replace(&mut self.quits, false);
+        self.run_lines(buffer, text);
+        self.quits |= quit;
+    }
+
     /// Runs a text that is typed into a buffer, line by line. After a `/quit` nothing is run, nor
     /// once the buffer is closed, nor where memory was refused.
     pub(crate) fn run_lines(&mut self, buffer: Handle, text: &[u8])
-        requires { IsUtf8 text.now }
+        requires text { IsUtf8 text.now }
+        requires going { self.old.quits ≡ false }
         ensures { Does self.old self.new
             (λ state. lines_step state buffer (lines_of_text text.now)) }
     {
@@ -51,72 +67,44 @@ impl Core {
     /// Runs a line that is typed into a buffer that is there. It answers whether what is after the
     /// line is skipped.
     fn run_line(&mut self, buffer: Handle, line: &[u8]) -> bool
-        requires { IsUtf8 line.now }
+        requires text { IsUtf8 line.now }
+        requires going { self.old.quits ≡ false }
         ensures goes_on { result ≡ false → GoesOn self.old self.new buffer line.now }
         ensures stops { result ≡ true → Stops self.old self.new buffer line.now }
     {
         let starved = self.starved;
-        if self.input(buffer, line) {
+        self.input(buffer, line);
+        if self.quits {
             return true;
         }
         self.starved != starved
     }
 
-    /// Does what a line asks for that is typed into a buffer. It answers whether the run is to end.
-    fn input(&mut self, buffer: Handle, line: &[u8]) -> bool
+    /// Does what a line asks for that is typed into a buffer.
+    fn input(&mut self, buffer: Handle, line: &[u8])
         requires { IsUtf8 line.now }
-        ensures does { Does self.old self.new (λ state. input_step state buffer line.now) }
-        ensures quits { result ≡ is_quit (typed_line line.now) }
+        ensures { Does self.old self.new (λ state. input_step state buffer line.now) }
     {
-        match other_in(line) {
-            Some((front, name)) => {
-                self.serve_line(buffer, line, front, name);
-                false
-            }
-            None => self.do_line(buffer, line),
-        }
+        self.input_at(MOST_EVALS, buffer, line);
     }
 
-    /// Does what a line asks for that is typed into a buffer, by what the core knows by itself. It
-    /// answers whether the run is to end.
-    fn do_line(&mut self, buffer: Handle, line: &[u8]) -> bool
+    /// Does what a line asks for that is typed into a buffer, by what the core knows by itself.
+    pub(crate) fn do_line(&mut self, buffer: Handle, line: &[u8])
         requires { IsUtf8 line.now }
-        ensures does { Does self.old self.new
+        ensures { Does self.old self.new
             (λ state. typed_step state buffer (typed_line line.now)) }
-        ensures quits { result ≡ is_quit (typed_line line.now) }
     {
         let _texts = self.board.world().buffers().groups();
         let asked = read_typed(line);
         match resolve(self.alloc, self.board.world(), self.moment, buffer, asked) {
-            Ok(Resolution::Stays) => false,
-            Ok(Resolution::Ends) => {
-                self.quit();
-                true
-            }
-            Ok(Resolution::Tells(text)) => {
-                self.tell_refusal(text);
-                false
-            }
-            Ok(Resolution::Asks(change)) => {
-                self.ask_after_part(change);
-                false
-            }
-            Ok(Resolution::SetsOption(pair)) => {
-                self.set_option(&pair);
-                false
-            }
-            Ok(Resolution::UnsetsOption(name)) => {
-                self.unset_option(&name);
-                false
-            }
-            Ok(Resolution::SavesOptions) => {
-                self.save();
-                false
-            }
-            Err(NoMemory) => {
-                self.starve();
-                false
-            }
+            Ok(Resolution::Stays) => {}
+            Ok(Resolution::Ends) => self.quit(),
+            Ok(Resolution::Tells(text)) => self.tell_refusal(text),
+            Ok(Resolution::Asks(change)) => self.ask_after_part(change),
+            Ok(Resolution::SetsOption(pair)) => self.set_option(&pair),
+            Ok(Resolution::UnsetsOption(name)) => self.unset_option(&name),
+            Ok(Resolution::SavesOptions) => self.save(),
+            Err(NoMemory) => self.starve(),
         }
     }
 

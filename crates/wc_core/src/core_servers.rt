@@ -6,7 +6,7 @@ ghost use Rattle.wc_ircmsg.specs.Utf8.{MessageIsUtf8};
 ghost use Rattle.wc_core.specs.Inputs.{taken_at};
 ghost use Rattle.wc_outside.specs.Keyed.{at_key};
 ghost use Rattle.wc_core.specs.Events.{Stands};
-ghost use Rattle.wc_core.specs.Served.{Does, ChangesServers, state_of};
+ghost use Rattle.wc_core.specs.Served.{Does, ChangesServers, plain_beside, state_of};
 ghost use Rattle.wc_core.specs.ServersKept.{LeavesAt};
 ghost use Rattle.wc_core.specs.ServerSteps.{server_line_step, server_loss_step, before_step};
 ghost use Rattle.wc_core.specs.ServerSteps.{parting_step, server_of, quit_step};
@@ -127,7 +127,7 @@ impl Core {
     /// The server of a buffer, which its variable names, where it is not leaving.
     pub(crate) fn server_at(&self, buffer: Handle) -> Option<&Seat>
         ensures { option_map seat_of (option_copied result)
-            ≡ server_of (state_of self.now self.now.world.nicks) buffer }
+            ≡ server_of (state_of self.now (plain_beside self.now)) buffer }
     {
         let vars = self.board.world().buffers().vars(buffer)?;
         let name = vars.get(b"server")?;

@@ -6,12 +6,12 @@ ghost use Rattle.wc_relaycmd.specs.Utf8.{RequestIsUtf8};
 ghost use Rattle.wc_session.specs.Served.{OnServed, OnNoMemory};
 ghost use Rattle.wc_core.specs.Events.{Start, Tick, Arrives, Line as LineCame};
 ghost use Rattle.wc_core.specs.Limits.{most_lines};
-ghost use Rattle.wc_core.specs.State.{first_state};
+ghost use Rattle.wc_core.specs.State.{Beside, first_state};
 ghost use Rattle.wc_core.specs.Step.{step, commands_step, push_step, loss_step};
 ghost use Rattle.wc_core.specs.Step.{link_loss_step, line_step, start_step};
 ghost use Rattle.wc_core.specs.Step.{outcome_step, request_step, client_link};
 ghost use Rattle.wc_servers.specs.Seats.{no_servers, seat_link, used_up, open_in};
-ghost use Rattle.wc_board.specs.Told.{Told};
+ghost use Rattle.wc_eval.specs.Verdicts.{Oracle};
 ghost use Rattle.wc_board.specs.Connections.{connection_link, is_open_at};
 ghost use Rattle.wc_core.specs.Served.{state_of, Means, Does, ChangesServers};
 ghost use Rattle.wc_core.specs.ServersKept.{LosesServer};
@@ -26,6 +26,7 @@ use std::alloc::Global;
 use std::marker::Model;
 use std::mem;
 use wc_board::Board;
+use wc_eval::Verdicts;
 use wc_options::Options;
 use wc_relaycmd::{Request, read_request};
 use wc_servers::Servers;
@@ -42,6 +43,8 @@ pub struct Core {
     pub(crate) options: Options,
     pub(crate) board: Board,
     pub(crate) servers: Servers,
+    /// The texts that were judged as patterns.
+    pub(crate) verdicts: Verdicts,
     pub(crate) moment: u64,
     commands: Vec<String>,
     /// The text of the options that was saved last, and whether the loop is still to write it.
@@ -73,6 +76,7 @@ impl Model for Core {
       saved = core.saved;
       unwritten = core.unwritten;
       servers = core.servers;
+      verdicts = core.verdicts;
       connects = core.connects;
       starved = core.starved;
       quits = core.quits;
@@ -83,19 +87,22 @@ impl Core {
     /// A core without clients and with the core buffer alone, where these are the options. They
     /// say how many lines a buffer holds at most. The commands are run at the start.
     pub fn new(alloc: Global, options: Options, commands: Vec<String>) -> Result<Core, NoMemory>
-        ensures means { IfOk result (λ core. Means core (first_state options (most_lines options)
-            (map string_bytes commands.items))) }
+        ensures means { IfOk result (λ core. (oracle : Oracle) → Means core
+            (first_state oracle options (most_lines options) (map string_bytes commands.items))) }
         ensures fresh { IfOk result (λ core. (core.connections ≡ []) × (core.starved ≡ 0)
             × (core.quits ≡ false)) }
         ensures written { IfOk result (λ core. (core.unwritten ≡ false) × (core.saved ≡ None)) }
         ensures servers { IfOk result (λ core. core.servers ≡ no_servers) }
+        ensures unjudged { IfOk result (λ core. core.verdicts.rows ≡ []) }
     {
         let board = Board::new(alloc, most_lines(&options))?;
+        let verdicts = Verdicts::new(alloc)?;
         Ok(Core {
             alloc,
             options,
             board,
             servers: Servers::new(alloc),
+            verdicts,
             moment: 0,
             commands,
             saved: None,
@@ -195,7 +202,7 @@ impl Core {
     /// open, or there is no memory. The link of a refused arrival is to be closed, and is no
     /// client.
     pub fn accepted(&mut self, arrival: Arrival) -> Option<Cause>
-        ensures comes { Absent arrival.link.0 (links_of self.old) → (told : Told) →
+        ensures comes { Absent arrival.link.0 (links_of self.old) → (told : Beside) →
             AdmitsUnlessStarved told arrival.link.0 self.old self.new result
             (step (state_of self.old told) (Arrives arrival.link.0 arrival.nonce)) }
         ensures admitted { result ≡ None →
@@ -293,7 +300,7 @@ impl Core {
     {
         match outcome {
             Outcome::Replied | Outcome::Silent => {}
-            Outcome::Input { buffer, text } => self.run_lines(buffer, text.as_slice()),
+            Outcome::Input { buffer, text } => self.run_input(buffer, text.as_slice()),
             Outcome::Leave(cause) => self.lose(link, cause),
             Outcome::NoMemory => self.starve_out(link),
         }

@@ -5,7 +5,7 @@ ghost use Rattle.std.specs.Prelude.{◌≡◌, ◌≢◌, ◌++◌, true, ℕ, L
 ghost use Rattle.std.specs.List.{All};
 ghost use Rattle.std.specs.Str.{IsUtf8};
 ghost use Rattle.wc_core.specs.Resolved.{option_text};
-ghost use Rattle.wc_core.specs.Served.{state_of, Does};
+ghost use Rattle.wc_core.specs.Served.{plain_beside, state_of, Does};
 ghost use Rattle.wc_core.specs.ServerSteps.{say_step, server_of, server_acts_step};
 ghost use Rattle.wc_core.specs.ServerTyped.{settings_step, delete_step, unlinked_text};
 ghost use Rattle.wc_core.specs.ServerTyped.{disconnect_step, meant_server, on_buffer_step};
@@ -201,7 +201,7 @@ impl Core {
     /// The server that is named, or else that of the buffer, where it is not leaving.
     fn meant_server(&self, buffer: Handle, name: Option<&[u8]>) -> Option<&Seat>
         ensures { option_map seat_of (option_copied result)
-            ≡ meant_server (state_of self.now self.now.world.nicks) buffer
+            ≡ meant_server (state_of self.now (plain_beside self.now)) buffer
             (option_copied name.entry) }
     {
         match name {

@@ -3,17 +3,20 @@
 
 mod core_acts;
 mod core_connect;
+mod core_eval;
 mod core_input;
 mod core_links;
 mod core_options;
 mod core_servers;
 mod core_state;
 mod core_typed;
+mod evaluated;
 mod limits;
 mod refusals;
 mod resolve;
 mod typed;
 mod typed_buffer;
+mod typed_eval;
 
 pub use core_state::Core;
 pub use limits::port_of;

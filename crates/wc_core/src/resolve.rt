@@ -1,12 +1,12 @@
 ghost use Rattle.std.specs.Option.{option_copied};
-ghost use Rattle.std.specs.Prelude.{◌≡◌, IfOk, IfErr, false, ◌++◌, [], ℕ, ◌^◌, ◌-◌, min};
+ghost use Rattle.std.specs.Prelude.{◌≡◌, IfOk, ◌++◌, [], ℕ, ◌^◌, ◌-◌, min};
 ghost use Rattle.wc_core.specs.Resolved.{SetsOption, UnsetsOption, switched};
 ghost use Rattle.wc_core.specs.Resolved.{Asks, Tells, no_such_buffer, change_of, buffer_meant};
 ghost use Rattle.wc_core.specs.Resolved.{of_meant, of_named, effect_of, line_spec, core_spec};
 ghost use Rattle.wc_core.specs.Resolved.{plugin_in, rename_of, told_refusal, first_of_number};
 ghost use Rattle.wc_core.specs.Resolved.{first_in, null};
 ghost use Rattle.wc_core.specs.ResolvedSeen.{outcome_of};
-ghost use Rattle.wc_core.specs.Step.{is_quit};
+ghost use Rattle.wc_core.specs.Evaluated.{printed_value};
 ghost use Rattle.wc_core.specs.Typed.{Merges, tags_of};
 ghost use Rattle.wc_core.specs.TypedSeen.{meaning, word_in};
 ghost use Rattle.wc_model.specs.declared.change.Change.{Change};
@@ -165,9 +165,8 @@ pub(crate) fn resolve(
     buffer: Handle,
     asked: CommandText<'_>,
 ) -> Result<Resolution, NoMemory>
-    ensures resolved { IfOk result (λ r. outcome_of r ≡ effect_of world.now moment buffer
+    ensures { IfOk result (λ r. outcome_of r ≡ effect_of world.now moment buffer
         (meaning asked.entry)) }
-    ensures goes_on { IfErr result (λ e. is_quit (meaning asked.entry) ≡ false) }
 {
     let buffers = world.buffers();
     match asked {
@@ -208,6 +207,7 @@ pub(crate) fn resolve(
         CommandText::UnsetOption(name) => unset_option(alloc, name),
         CommandText::Switch(name) => switch(alloc, buffer_meant(buffers, name)),
         CommandText::Save => Ok(Resolution::SavesOptions),
+        CommandText::Eval { usage: _, text: _ } => Ok(Resolution::Stays),
     }
 }
 
@@ -268,15 +268,32 @@ fn print(
     asks_there(alloc, buffer, What::Print(line))
 }
 
+/// The print of a line without tags on the core buffer.
+fn printed(alloc: Global, moment: u64, prefix: Text, message: Text) -> Change
+    ensures { result ≡ change_of (record { 0 = 1 })
+        (what.Print (line_spec moment [] prefix message)) }
+{
+    Change {
+        buffer: CORE,
+        what: What::Print(line_spec(moment, Items::new(alloc), prefix, message)),
+    }
+}
+
 /// The print that tells a refusal: a line of the core buffer.
 pub(crate) fn told_refusal(alloc: Global, moment: u64, text: Text) -> Result<Change, NoMemory>
     ensures { IfOk result (λ change. change ≡ told_refusal moment text) }
 {
     let prefix = Text::from_slice(alloc, REFUSAL)?;
-    Ok(Change {
-        buffer: CORE,
-        what: What::Print(line_spec(moment, Items::new(alloc), prefix, text)),
-    })
+    Ok(printed(alloc, moment, prefix, text))
+}
+
+/// The print of what a text came to that was evaluated: a line of the core buffer.
+pub(crate) fn printed_value(alloc: Global, moment: u64, value: &[u8]) -> Result<Change, NoMemory>
+    ensures { IfOk result (λ change. change ≡ printed_value moment value.now) }
+{
+    let mut message = joined_texts(alloc, b"== [", value)?;
+    message.append(b"]")?;
+    Ok(printed(alloc, moment, Text::new(alloc), message))
 }
 
 /// A new buffer of the core.

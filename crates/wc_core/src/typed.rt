@@ -9,6 +9,7 @@ ghost use Rattle.wc_core.specs.TypedSeen.{meaning, word_in, number_of, texts_in}
 ghost use Rattle.wc_text.specs.Words.{is_filled};
 
 use crate::typed_buffer::{buffer_command, only_word};
+use crate::typed_eval::{EvalUse, eval_command};
 use std::alloc::Global;
 use wc_text::{Items, NoMemory, Text, cut_word, split_once};
 
@@ -72,6 +73,11 @@ pub enum CommandText<'a> {
     Switch(&'a [u8]),
     /// The options are to be saved.
     Save,
+    /// A text that is evaluated.
+    Eval {
+        usage: EvalUse,
+        text: &'a [u8],
+    },
 }
 
 fn no_text_here<'a>() -> CommandText<'a>
@@ -183,6 +189,8 @@ fn command<'a>(name: &'a [u8], text: &'a [u8]) -> CommandText<'a>
         quit_command(text)
     } else if name == b"input".as_slice() {
         input_command(text)
+    } else if name == b"eval".as_slice() {
+        eval_command(text)
     } else {
         option_command(name, text)
     }

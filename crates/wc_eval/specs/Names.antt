@@ -1,8 +1,9 @@
 -- What a name between `${` and `}` stands for.
 use Rattle.std.specs.Prelude.{ℕ, List, [], ◌∷◌, if◌then◌else◌, bytes_eq, Option, Some, None}
 use Rattle.std.specs.Prelude.{option_and_then, slice_get, All}
-use Rattle.std.specs.Str.{IsUtf8}
+use Rattle.std.specs.Str.{IsUtf8, is_utf8}
 use Rattle.wc_text.specs.declared.names.Pair.{Pair}
+use Rattle.wc_options.specs.Options.{OptionsValue, value_of as option_of}
 use Rattle.wc_eval.specs.declared.scope.Scope.{Scope}
 use Rattle.wc_eval.specs.Values.{size_in}
 
@@ -10,7 +11,8 @@ use Rattle.wc_eval.specs.Values.{size_in}
 pub record Facts : Type 0 where
   -- the variables of a trigger
   pub vars : List Pair
-  -- options, and facts of the buffer
+  pub options : OptionsValue
+  -- facts of the buffer
   pub facts : List Pair
   -- the local variables of the buffer
   pub locals : List Pair
@@ -20,6 +22,7 @@ pub record Facts : Type 0 where
 abbrev pub facts_of : Scope → Facts
 facts_of scope = record {
   vars = scope.vars.now;
+  options = scope.options.now;
   facts = scope.facts.now;
   locals = scope.locals.now;
   groups = scope.groups.now;
@@ -55,10 +58,19 @@ abbrev pub defined_in : List ℕ → List (List ℕ × List ℕ) → Option (Lis
 defined_in name [] = None
 defined_in name (e ∷ es) = if bytes_eq name e.0 then Some e.1 else defined_in name es
 
--- a variable, an option or a fact, a local variable
+-- a value that is text
+abbrev pub text_in : List ℕ → Option (List ℕ)
+text_in value = if is_utf8 value then Some value else None
+
+-- the value of an option, where it is text, as each one is that was set
+abbrev pub option_in : OptionsValue → List ℕ → Option (List ℕ)
+option_in options name = option_and_then text_in (option_of options name)
+
+-- a variable, an option, a fact, a local variable
 abbrev pub known_in : Facts → List ℕ → Option (List ℕ)
 known_in scope name = or_else (value_of name scope.vars)
-    (or_else (value_of name scope.facts) (value_of name scope.locals))
+    (or_else (option_in scope.options name)
+    (or_else (value_of name scope.facts) (value_of name scope.locals)))
 
 -- a defined name before the others
 unfoldable pub name_value : Facts → List (List ℕ × List ℕ) → List ℕ → List ℕ

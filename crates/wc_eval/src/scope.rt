@@ -1,9 +1,10 @@
 ghost use Rattle.std.specs.Prelude.{◌≡◌, All, IfSome, option_map};
-ghost use Rattle.std.specs.Str.{IsUtf8};
-ghost use Rattle.wc_eval.specs.Names.{facts_of, value_of, known_in};
+ghost use Rattle.std.specs.Str.{IsUtf8, is_utf8};
+ghost use Rattle.wc_eval.specs.Names.{facts_of, value_of, text_in, option_in, known_in};
 ghost use Rattle.wc_eval.specs.Names.{group_value, HasText, AreTexts};
 
 use crate::values::read_size;
+use wc_options::Options;
 use wc_text::{Items, Pair, Text};
 
 /// What a text may name.
@@ -11,7 +12,8 @@ use wc_text::{Items, Pair, Text};
 pub struct Scope<'a> {
     /// The variables of a trigger.
     pub vars: &'a Items<Pair>,
-    /// Options, and facts of the buffer.
+    pub options: &'a Options,
+    /// Facts of the buffer.
     pub facts: &'a Items<Pair>,
     /// The local variables of the buffer.
     pub locals: &'a Items<Pair>,
@@ -33,6 +35,35 @@ fn value_of<'a>(pairs: &'a [Pair], name: &[u8]) -> Option<&'a [u8]>
     None
 }
 
+/// Whether bytes are UTF-8.
+fn is_text(bytes: &[u8]) -> bool
+    ensures { result ≡ is_utf8 bytes.now }
+{
+    match std::str::from_utf8(bytes) {
+        Ok(_) => true,
+        Err(_) => false,
+    }
+}
+
+/// A value, where it is text.
+fn text_in(value: &[u8]) -> Option<&[u8]>
+    ensures utf8 { IfSome result (λ text. IsUtf8 text.now) }
+    ensures value { option_map (λ text. text.now) result ≡ text_in value.now }
+{
+    if is_text(value) { Some(value) } else { None }
+}
+
+/// The value of an option, where it is text.
+fn option_in<'a>(options: &'a Options, name: &[u8]) -> Option<&'a [u8]>
+    ensures utf8 { IfSome result (λ value. IsUtf8 value.now) }
+    ensures value { option_map (λ value. value.now) result ≡ option_in options.now name.now }
+{
+    match options.get(name) {
+        Some(value) => text_in(value.as_slice()),
+        None => None,
+    }
+}
+
 impl<'a> Scope<'a> {
     /// What a name stands for that is not defined in the text.
     pub(crate) fn known(self, name: &[u8]) -> Option<&'a [u8]>
@@ -42,6 +73,9 @@ impl<'a> Scope<'a> {
             ≡ known_in (facts_of self.entry) name.now }
     {
         if let Some(value) = value_of(self.vars.as_slice(), name) {
+            return Some(value);
+        }
+        if let Some(value) = option_in(self.options, name) {
             return Some(value);
         }
         if let Some(value) = value_of(self.facts.as_slice(), name) {

@@ -6,6 +6,7 @@ use crate::scenery::{facts, groups, locals, vars};
 use std::alloc::Global;
 use wc_eval::{Comparison, Scope, Verdicts, calc, compare, condition, eval};
 use wc_notation::{Wrong, cut_word, put_either, put_quoted, unescape};
+use wc_options::Options;
 use wc_text::Text;
 
 /// The text that the rest of a line writes.
@@ -104,11 +105,13 @@ fn answer_in_scope(
     requires { IsUtf8 text.now }
 {
     let vars = vars(alloc)?;
+    let options = Options::new(alloc)?;
     let facts = facts(alloc)?;
     let locals = locals(alloc)?;
     let groups = groups(alloc)?;
     let scope = Scope {
         vars: &vars,
+        options: &options,
         facts: &facts,
         locals: &locals,
         groups: &groups,

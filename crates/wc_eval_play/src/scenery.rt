@@ -23,12 +23,11 @@ pub fn vars(alloc: Global) -> Result<Items<Pair>, NoMemory>
     Ok(vars)
 }
 
-/// An option, and facts of a buffer.
+/// Facts of a buffer.
 pub fn facts(alloc: Global) -> Result<Items<Pair>, NoMemory>
     ensures { IfOk result (All HasText) }
 {
     let mut facts = Items::new(alloc);
-    facts.push(pair(alloc, "relay.network.max_clients", "5")?)?;
     facts.push(pair(alloc, "buffer.number", "1")?)?;
     facts.push(pair(alloc, "buffer.full_name", "core.weechat")?)?;
     Ok(facts)

@@ -11,6 +11,7 @@ use Rattle.wc_core.specs.State.{State}
 use Rattle.wc_core.specs.Step.{run}
 use Rattle.wc_turns.specs.declared.headless.Headless.{Headless}
 use Rattle.wc_turns.specs.Events.{whole}
+use Rattle.wc_eval.specs.Verdicts.{Oracle, Agrees}
 use Rattle.wc_demo.specs.declared.counts.Counts.{Counts}
 use Rattle.wc_demo.specs.Client.{IsCountedBy}
 use Rattle.wc_demo.specs.Counts.{counts_of}
@@ -35,7 +36,7 @@ ran : (turns k k' : ℕ) (before after : Seen) (ending : Ending) (last : Headles
 ran turns k k' before after ending last r eight starved = record {
   starved = starved;
   going = (r.ends.all eight).1;
-  handed = λ tells. of_ok (config_of []) fresh (λ options. IsTrue after.tells → last.core.starved ≡ 0 → HandsOut (state_before options demo_opening) after last) empty_config r.left.headline tells starved;
+  handed = λ tells. of_ok (config_of []) fresh (λ options. IsTrue after.tells → last.core.starved ≡ 0 → (oracle : Oracle) → Agrees oracle last.core.verdicts → HandsOut (state_before oracle options demo_opening) after last) empty_config r.left.headline tells starved;
 }
 
 -- the same of a run of which its words, its configuration and its end are known
@@ -58,9 +59,9 @@ counted : (lines : ℕ) (counts : Counts) (seen : Seen) (last : Headless) → Ru
 counted lines counts seen last demo tells taken are mirrored =
     let handed = demo.handed tells in
     record {
-      are = are ∙ sym (ap counts_of (ends_in demo_state seen last handed demo.going)) ∙ ap (λ xs. counts_of (run demo_state (whole xs)).state.world) taken;
       seen = seen;
       last = last;
+      are = λ oracle judged. are ∙ sym (ap counts_of (ends_in (demo_state oracle) seen last (handed oracle judged) demo.going)) ∙ ap (λ xs. counts_of (run (demo_state oracle) (whole xs)).state.world) taken;
       taken = taken;
       handed = handed;
       starved = demo.starved;

@@ -18,7 +18,7 @@ use Rattle.wc_core.specs.State.{State, Act, Sends, Closes, Serves, Quits, first_
 use Rattle.wc_core.specs.Limits.{most_lines}
 use Rattle.wc_options.specs.Options.{OptionsValue}
 use Rattle.wc_core.specs.Step.{client_link, run}
-use Rattle.wc_board.specs.Told.{Told}
+use Rattle.wc_core.specs.State.{Beside, beside}
 use Rattle.wc_board.specs.Connections.{connection_link, unsent_on as client_unsent_on, unsent_in as client_unsent_in}
 use Rattle.wc_servers.specs.declared.wanted.Wanted.{Wanted}
 use Rattle.wc_servers.specs.Outs.{lines_by, lines_to}
@@ -39,6 +39,7 @@ use Rattle.wc_turns.specs.Served.{ReachesEvents, NobodyLeaving, closed_by, leavi
 use Rattle.wc_turns.proofs.RunLemmas.{up_to_quit-front}
 use Rattle.wc_turns.proofs.SeatCloses.{calm-seat}
 use Rattle.wc_turns.specs.Turns.{AgreesWithSockets, LoopStep, moment, point, QuitsWithin}
+use Rattle.wc_eval.specs.Verdicts.{Oracle, Agrees}
 
 pub AgreesWithSockets-first : (first : Headless) (seen : Seen) → IsFirst first → NothingTaken seen → AgreesWithSockets first seen
 AgreesWithSockets-first first seen f new = record {
@@ -108,9 +109,9 @@ first-held true h f = record {
 }
 first-held false h f = f
 
-pub means-held : (holds : Bool) (h : Headless) (options : OptionsValue) (commands : List (List ℕ)) → Means h.core (first_state options (most_lines options) commands) → Means (held_if holds h).core (state_before options (record { commands = commands; holds = holds }))
-means-held true h options commands m = record { same = ap (λ (s : State). record s { connects = false }) m.same; told = m.told }
-means-held false h options commands m = m
+pub means-held : (oracle : Oracle) (holds : Bool) (h : Headless) (options : OptionsValue) (commands : List (List ℕ)) → Means h.core (first_state oracle options (most_lines options) commands) → Means (held_if holds h).core (state_before oracle options (record { commands = commands; holds = holds }))
+means-held oracle true h options commands m = record { same = ap (λ (s : State). record s { connects = false }) m.same; told = m.told }
+means-held oracle false h options commands m = m
 
 -- ---- the clients of connections of which none is leaving, and the servers of seats
 
@@ -148,7 +149,7 @@ some-there f None y e = cc
 some-there f (Some s) y e = refl
 
 -- who is at a link of the core is at that link of the state
-party-seen : (k : ℕ) (core : CoreView) (told : Told) → AreApart (links_of core.servers.seats) → IsCalm core → has_party k core ≡ has_party_in k (state_of core told)
+party-seen : (k : ℕ) (core : CoreView) (told : Beside) → AreApart (links_of core.servers.seats) → IsCalm core → has_party k core ≡ has_party_in k (state_of core told)
 party-seen k core told apart calm =
     let parts = empty_parts (seat_closes core.servers.seats) (leaving_closes core.connections) calm.parted in
     let clients : is_some (at_key client_link k (clients_of core.connections)) ≡ is_some (at_key connection_link k core.connections) = ap is_some (at_key-clients k core.connections parts.1) ∙ some-same _ _ in
@@ -209,18 +210,18 @@ reaches-from : (q q' : Bool) (n m : ℕ) (taken gained all : List Happening) (ev
 reaches-from q q' n m taken gained all events quits none nothing same h = rw (quits, none, nothing, same) at h
 
 -- a loop that began with nothing, after the listener was asked for
-pub HandsOut-run : {n f : ℕ} (first last : Headless) (a b : Seen) (port : ℕ) → LoopStep false n f first last a b → IsFirst first → NothingTaken a → (IsTrue a.tells → a.asked ≡ Listen port ∷ []) → IsCalm last.core → IsTrue b.tells → last.core.starved ≡ 0 → (told : Told) → WereTold first.core told
+pub HandsOut-run : {n f : ℕ} (first last : Headless) (a b : Seen) (port : ℕ) → LoopStep false n f first last a b → IsFirst first → NothingTaken a → (IsTrue a.tells → a.asked ≡ Listen port ∷ []) → IsCalm last.core → IsTrue b.tells → last.core.starved ≡ 0 → (told : Beside) → WereTold first.core told → Agrees told.oracle last.core.verdicts
     → HandsOut (state_of first.core told) b last
-HandsOut-run first last a b port h f new listened calm t fed rows were =
+HandsOut-run first last a b port h f new listened calm t fed rows were judged =
     let told = h.told t in
     let agrees = AgreesWithSockets-first first a f new in
     let after = h.agrees agrees in
     let gained : h.gained ≡ b.taken = sym (h.taken t ∙ ap (λ taken. taken ++ h.gained) (new.taken told)) in
     let goes = h.goes t agrees in
     let acts = (run (state_of first.core rows) goes.events).acts in
-    let advances = goes.advances (fed ∙ sym f.starved) (omega (arith, f.starved)) rows were in
+    let advances = goes.advances (fed ∙ sym f.starved) (omega (arith, f.starved)) rows were judged in
     let same = sym advances.means.same in
-    let rows' = (run (state_of first.core rows) goes.events).state.told in
+    let rows' = (beside (run (state_of first.core rows) goes.events).state) in
     let parts = empty_parts (seat_closes last.core.servers.seats) (leaving_closes last.core.connections) calm.parted in
     let none : (k : ℕ) → a.sent k ++ unsent_on k first.core ≡ [] = λ k. ap (λ s. s ++ unsent_on k first.core) (new.sent told k) ∙ ap (λ l. client_unsent_on k l ++ server_unsent_on k first.core.servers.seats) f.connections ∙ ap (λ (s : ServersView). server_unsent_on k s.seats) f.servers in
     let reaches = reaches-from _ _ _ _ _ _ _ _ f.quits f.ran (new.taken told) gained goes.reaches in
@@ -230,7 +231,7 @@ HandsOut-run first last a b port h f new listened calm t fed rows were =
       reaches = reaches;
       ends = up_to_quit-front (state_of first.core rows) (events_from [] b.taken) goes.events reaches.rest reaches.front advances.stops (λ none. reaches.whole (quits ∙ none));
       silent = λ over.
-          let within = goes.last (fed ∙ sym f.starved) (omega (arith, f.starved)) rows were f.quits over in
+          let within = goes.last (fed ∙ sym f.starved) (omega (arith, f.starved)) rows were judged f.quits over in
           subst (λ taken. QuitsWithin taken b.taken goes.events) (new.taken told) (subst (λ more. QuitsWithin a.taken more goes.events) gained within);
       means = advances.means;
       quits = quits;
@@ -273,9 +274,9 @@ Fresh-listening a b new told taken sent used there undrained listening blocked =
   sent = λ t k. sent t k ∙ new.sent (told t) k;
 }
 
-pub Headline-known : (opening : Opening) (contents : Option (List ℕ)) (first : Headless) (port : ℕ) (seen : Seen) (last : Headless) → IfSome contents (IsConfigured opening first port) → (IsTrue seen.tells → last.core.starved ≡ 0 → (told : Told) → WereTold first.core told → HandsOut (state_of first.core told) seen last) → Headline opening contents seen last
+pub Headline-known : (opening : Opening) (contents : Option (List ℕ)) (first : Headless) (port : ℕ) (seen : Seen) (last : Headless) → IfSome contents (IsConfigured opening first port) → (IsTrue seen.tells → last.core.starved ≡ 0 → (told : Beside) → WereTold first.core told → Agrees told.oracle last.core.verdicts → HandsOut (state_of first.core told) seen last) → Headline opening contents seen last
 Headline-known opening None first port seen last known hands = tt
-Headline-known opening (Some kept) first port seen last known hands = rw known.set (λ t fed. subst (λ state. HandsOut state seen last) (sym known.means.same) (hands t fed _ known.means.told))
+Headline-known opening (Some kept) first port seen last known hands = rw known.set (λ t fed oracle judged. subst (λ state. HandsOut state seen last) (sym (known.means oracle).same) (hands t fed _ (known.means oracle).told judged))
 
 pub IfSome-last : (o : Option Headless) (h : Headless) (P : Headless → Type 0) → o ≡ kept_of h → (1 ≤ h.turns → P h) → IfSome o P
 IfSome-last o h P e p = rw e (go (eqb h.turns 0) refl)

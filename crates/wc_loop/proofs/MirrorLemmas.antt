@@ -30,6 +30,8 @@ use Rattle.wc_turns.specs.Events.{events_of, events_from, wake_events, loss_of, 
 use Rattle.wc_loop.specs.Headline.{HandsOut, ClientsHoldDumps, state_before}
 use Rattle.wc_loop.specs.Words.{Opening}
 use Rattle.wc_turns.specs.Lines.{ended_lines, without_cr, line_limit}
+use Rattle.wc_core.specs.State.{beside}
+use Rattle.wc_eval.specs.Verdicts.{Oracle}
 
 -- ---- lines are no longer than one may be
 
@@ -91,13 +93,13 @@ open-client : (P : Type 0) (o : Option Client) → is_following o ≡ true → (
 open-client P None e f = absurd (false≢true e)
 open-client P (Some client) e f = f client refl
 
-shows-by : (commands : List (List ℕ)) (connects : Bool) (texts : AllByRecursion IsUtf8 commands) (options : OptionsValue) (limit : ℕ) (seen : Seen) (last : Headless) → limit ≤ 4096 → (handed : HandsOut (beginning options limit commands connects) seen last) (which : HeldPart) (link : ℕ) (id : List ℕ) → 1 ≤ link → SettledBy which link id (beginning options limit commands connects) handed.events
-    → ShowsPart which limit id (seen.sent link ++ unsent_on link last.core.connections) (state_of last.core (run (beginning options limit commands connects) handed.events).state.told)
-shows-by commands connects texts options limit seen last most handed which link id one settled =
-    let first = beginning options limit commands connects in
-    let means : State = state_of last.core (run first handed.events).state.told in
+shows-by : (oracle : Oracle) (commands : List (List ℕ)) (connects : Bool) (texts : AllByRecursion IsUtf8 commands) (options : OptionsValue) (limit : ℕ) (seen : Seen) (last : Headless) → limit ≤ 4096 → (handed : HandsOut (beginning oracle options limit commands connects) seen last) (which : HeldPart) (link : ℕ) (id : List ℕ) → 1 ≤ link → SettledBy which link id (beginning oracle options limit commands connects) handed.events
+    → ShowsPart which limit id (seen.sent link ++ unsent_on link last.core.connections) (state_of last.core (beside (run (beginning oracle options limit commands connects) handed.events).state))
+shows-by oracle commands connects texts options limit seen last most handed which link id one settled =
+    let first = beginning oracle options limit commands connects in
+    let means : State = state_of last.core (beside (run first handed.events).state) in
     let short = short-front handed.events handed.reaches.rest (subst (AllByRecursion IsShortLine) handed.reaches.front (short-from [] seen.taken)) in
-    let shows : ShowsPart which limit id (sent_to link (run first handed.events).acts) (run first handed.events).state = part_shows which options limit commands connects handed.events link id most texts short settled in
+    let shows : ShowsPart which limit id (sent_to link (run first handed.events).acts) (run first handed.events).state = part_shows which oracle options limit commands connects handed.events link id most texts short settled in
     let bytes = open-client _ (at_key client_link link (run first handed.events).state.clients) settled.still (λ client there. handed.opened link client one there) in
     subst (λ sent. ShowsPart which limit id sent means) (sym bytes) (subst (λ state. ShowsPart which limit id (sent_to link (run first handed.events).acts) state) handed.means.same shows)
 
@@ -105,9 +107,9 @@ pub ClientsHoldDumps-known : (opening : Opening) → AllByRecursion IsUtf8 openi
 ClientsHoldDumps-known opening texts None seen last = tt
 ClientsHoldDumps-known opening texts (Some kept) seen last = go (config_of kept)
   where
-    go : (r : Result OptionsValue ℕ) → IfOk r (λ options. (handed : HandsOut (state_before options opening) seen last) (which : HeldPart) (link : ℕ) (id : List ℕ) → 1 ≤ link → SettledBy which link id (state_before options opening) handed.events
-        → ShowsPart which (most_lines options) id (seen.sent link ++ unsent_on link last.core.connections) (state_of last.core (run (state_before options opening) handed.events).state.told))
-    go (Ok options) = λ handed which link id one settled. shows-by opening.commands (not opening.holds) texts options (most_lines options) seen last (limit_most options) handed which link id one settled
+    go : (r : Result OptionsValue ℕ) → IfOk r (λ options. (oracle : Oracle) (handed : HandsOut (state_before oracle options opening) seen last) (which : HeldPart) (link : ℕ) (id : List ℕ) → 1 ≤ link → SettledBy which link id (state_before oracle options opening) handed.events
+        → ShowsPart which (most_lines options) id (seen.sent link ++ unsent_on link last.core.connections) (state_of last.core (beside (run (state_before oracle options opening) handed.events).state)))
+    go (Ok options) = λ oracle handed which link id one settled. shows-by oracle opening.commands (not opening.holds) texts options (most_lines options) seen last (limit_most options) handed which link id one settled
     go (Err n) = tt
 
 pub ClientsHoldDumps-last : (opening : Opening) → AllByRecursion IsUtf8 opening.commands → (contents : Option (List ℕ)) (seen : Seen) (last : Option Headless) → IfSome last (ClientsHoldDumps opening contents seen)

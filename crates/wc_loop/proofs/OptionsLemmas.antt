@@ -14,6 +14,7 @@ use Rattle.wc_turns.specs.declared.headless.Headless.{Headless}
 use Rattle.wc_loop.specs.Endings.{IsPort}
 use Rattle.wc_loop.specs.Headline.{state_before, IsConfigured}
 use Rattle.wc_loop.specs.Words.{Opening}
+use Rattle.wc_eval.specs.Verdicts.{Oracle}
 
 -- the number of an unreadable line
 pub line_is : (n : ℕ) (r : Result OptionsValue ℕ) → IsBadLine (BadLine n) r → r ≡ Err n
@@ -58,6 +59,6 @@ some_port (Some configuration) = port_by (config_of configuration)
 
 -- a state and a port that were made by the options
 pub configured_by : (opening : Opening) (contents : Option (List ℕ)) (headless : Headless) (port : ℕ) (options : OptionsValue) → IfSome contents (λ configuration. config_of configuration ≡ Ok options)
-    → Means headless.core (state_before options opening) → port ≡ port_of options → IfSome contents (IsConfigured opening headless port)
+    → ((oracle : Oracle) → Means headless.core (state_before oracle options opening)) → port ≡ port_of options → IfSome contents (IsConfigured opening headless port)
 configured_by opening None headless port options set means at = tt
 configured_by opening (Some configuration) headless port options set means at = record { options = options; set = set; means = means; port_set = at }

@@ -9,6 +9,7 @@ use Rattle.wc_core.specs.State.{State}
 use Rattle.wc_core.specs.Step.{run}
 use Rattle.wc_turns.specs.declared.headless.Headless.{Headless}
 use Rattle.wc_turns.specs.Events.{whole}
+use Rattle.wc_eval.specs.Verdicts.{Oracle, Agrees}
 use Rattle.wc_demo.specs.declared.counts.Counts.{Counts}
 use Rattle.wc_demo.specs.Counts.{counts_of}
 use Rattle.wc_demo.specs.Client.{IsCountedBy}
@@ -40,15 +41,17 @@ abbrev pub demo_opening : Opening
 demo_opening = record { commands = commands_of start_words; holds = false }
 
 -- before that no option is set
-abbrev pub demo_state : State
-demo_state = state_before fresh demo_opening
+abbrev pub demo_state : Oracle → State
+demo_state oracle = state_before oracle fresh demo_opening
 
 -- A run of whose sockets this was seen ended in this state: all its turns were taken, no growth was
--- refused, and where the sockets tell it handed out what it owes.
+-- refused, and where the sockets tell it handed out what it owes, whatever is thought of texts that
+-- were not judged as patterns.
 pub record RunsDemo (seen : Seen) (last : Headless) : Type 0 where
   pub starved : last.core.starved ≡ 0
   pub going : last.core.quits ≡ false
-  pub handed : IsTrue seen.tells → HandsOut demo_state seen last
+  pub handed : IsTrue seen.tells → (oracle : Oracle) → Agrees oracle last.core.verdicts →
+      HandsOut (demo_state oracle) seen last
 
 -- what is unsent to the client, if it is still there
 abbrev pub unsent_to_client : Headless → List ℕ
@@ -58,12 +61,14 @@ unsent_to_client last = unwrap_or (unsent_in_core client.0 last.core) []
 -- moments at which it ticks. They are counted by a mirror that takes all that the client is sent. No
 -- growth was refused in the run.
 pub record AreDemoCounts (lines : ℕ) (counts : Counts) : Type 0 where
-  pub are : counts ≡ counts_of (run demo_state (whole (demo_taken lines))).state.world
   -- what was seen of the sockets of that run, and the state at its end
   pub seen : Seen
   pub last : Headless
+  pub are : (oracle : Oracle) → Agrees oracle last.core.verdicts →
+      counts ≡ counts_of (run (demo_state oracle) (whole (demo_taken lines))).state.world
   pub taken : seen.taken ≡ demo_taken lines
-  pub handed : HandsOut demo_state seen last
+  pub handed : (oracle : Oracle) → Agrees oracle last.core.verdicts →
+      HandsOut (demo_state oracle) seen last
   pub starved : last.core.starved ≡ 0
   pub mirrored : IsCountedBy (max last.core.world.limit 1) (seen.sent client.0)
       (unsent_to_client last) counts

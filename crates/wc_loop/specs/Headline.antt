@@ -29,12 +29,15 @@ use Rattle.wc_mirror_laws.specs.Settled.{SettledBy}
 use Rattle.wc_turns.specs.Events.{whole}
 use Rattle.wc_turns.specs.Served.{ReachesEvents}
 use Rattle.wc_turns.specs.Turns.{moment, point, QuitsWithin}
+use Rattle.wc_core.specs.State.{beside}
+use Rattle.wc_eval.specs.Verdicts.{Oracle, Agrees}
 
--- the state before the start
-abbrev pub state_before : OptionsValue → Opening → State
-state_before options opening = record (first_state options (most_lines options) opening.commands) {
-  connects = not opening.holds;
-}
+-- the state before the start, where texts are judged so
+abbrev pub state_before : Oracle → OptionsValue → Opening → State
+state_before oracle options opening =
+    record (first_state oracle options (most_lines options) opening.commands) {
+      connects = not opening.holds;
+    }
 
 -- the state of a loop whose servers are not connected by themselves, where that is held back
 abbrev pub held_if : Bool → Headless → Headless
@@ -76,12 +79,14 @@ pub record HandsOut (first : State) (seen : Seen) (last : Headless) : Type 0 whe
   pub port : ℕ
   pub asked : seen.asked ≡ Listen port ∷ asks_in (run first events).acts
 
--- the same of a run that begins so, where the sockets and the keeper tell what they hold and no growth was refused
+-- The same of a run that begins so, where the sockets and the keeper tell what they hold and no growth
+-- was refused: whatever is thought of texts that were not judged as patterns.
 abbrev pub Headline : Opening → Option (List ℕ) → Seen → Headless → Type 0
 Headline opening contents seen last =
     IfSome contents (λ configuration. IfOk (config_of configuration)
     (λ options. IsTrue seen.tells → last.core.starved ≡ 0 →
-    HandsOut (state_before options opening) seen last))
+    (oracle : Oracle) → Agrees oracle last.core.verdicts →
+    HandsOut (state_before oracle options opening) seen last))
 
 -- Where that is so, each client that settled by the dump of a part, the lines of all buffers, the
 -- buffers in their groups or the nicklists, has exactly this part of what the core holds, by the
@@ -90,19 +95,19 @@ Headline opening contents seen last =
 abbrev pub ClientsHoldDumps : Opening → Option (List ℕ) → Seen → Headless → Type 0
 ClientsHoldDumps opening contents seen last =
     IfSome contents (λ configuration. IfOk (config_of configuration) (λ options.
-    (handed : HandsOut (state_before options opening) seen last) (which : HeldPart)
+    (oracle : Oracle) (handed : HandsOut (state_before oracle options opening) seen last) (which : HeldPart)
     (link : ℕ) (id : List ℕ) → 1 ≤ link →
-    SettledBy which link id (state_before options opening) handed.events
+    SettledBy which link id (state_before oracle options opening) handed.events
     → ShowsPart which (most_lines options) id (seen.sent link ++ unsent_on link last.core.connections)
     (state_of last.core
-    (run (state_before options opening) handed.events).state.told)))
+    (beside (run (state_before oracle options opening) handed.events).state))))
 
 -- a state and a port that a configuration sets
 pub record IsConfigured (opening : Opening) (headless : Headless) (port : ℕ)
     (configuration : List ℕ) : Type 0 where
   pub options : OptionsValue
   pub set : config_of configuration ≡ Ok options
-  pub means : Means headless.core (state_before options opening)
+  pub means : (oracle : Oracle) → Means headless.core (state_before oracle options opening)
   pub port_set : port ≡ port_of options
 
 -- a state before the first turn

@@ -10,6 +10,7 @@ ghost use Rattle.wc_turns.specs.Saves.{SavesTurn};
 ghost use Rattle.wc_options.specs.Config.{config_of};
 ghost use Rattle.wc_core.specs.Limits.{port_of};
 ghost use Rattle.wc_core.specs.Served.{Means};
+ghost use Rattle.wc_eval.specs.Verdicts.{Oracle};
 ghost use Rattle.wc_loop.specs.Headline.{state_before, held_if, IsFirst, IsConfigured};
 ghost use Rattle.wc_turns.specs.Parties.{IsCalm};
 ghost use Rattle.wc_turns.specs.Sources.{AllServed, AllSent};
@@ -63,8 +64,8 @@ fn state_by(
     holds: bool,
 ) -> Result<Configured, NoMemory>
     ensures first { IfOk result (λ made. IsFirst made.headless) }
-    ensures means { IfOk result (λ made. Means made.headless.core
-        (state_before options
+    ensures means { IfOk result (λ made. (oracle : Oracle) → Means made.headless.core
+        (state_before oracle options
         (record { commands = map string_bytes commands.items; holds = holds }))) }
     ensures port { IfOk result (λ made. made.port ≡ port_of options) }
     ensures calm { IfOk result (λ made. IsCalm made.headless.core) }

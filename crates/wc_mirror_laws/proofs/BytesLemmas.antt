@@ -99,15 +99,15 @@ spelt_on limit link state (event ∷ events) kept =
 -- ---- the bytes
 
 pub run_spells : RunSpells
-run_spells options limit commands connects events link most texts =
-    let acts = (run (beginning options limit commands connects) events).acts in
-    record { each = spelt_on limit link (beginning options limit commands connects) events (start_kept limit link options commands connects most texts); whole = sent_to-messages link acts }
+run_spells oracle options limit commands connects events link most texts =
+    let acts = (run (beginning oracle options limit commands connects) events).acts in
+    record { each = spelt_on limit link (beginning oracle options limit commands connects) events (start_kept limit link oracle options commands connects most texts); whole = sent_to-messages link acts }
 
 pub part_shows : (which : HeldPart) → PartShows which
-part_shows which options limit commands connects events link id most texts short settled = record {
-  messages = messages_to link (run (beginning options limit commands connects) events).acts;
-  spell = run_spells options limit commands connects events link most texts;
-  has = mirrors which options limit commands connects events link id most texts short settled;
+part_shows which oracle options limit commands connects events link id most texts short settled = record {
+  messages = messages_to link (run (beginning oracle options limit commands connects) events).acts;
+  spell = run_spells oracle options limit commands connects events link most texts;
+  has = mirrors which oracle options limit commands connects events link id most texts short settled;
 }
 
 pub bytes_show : BytesShow

@@ -34,6 +34,7 @@ use Rattle.wc_mirror_laws.specs.Held.{HeldPart, Lines, Buffers, Nicks}
 use Rattle.wc_mirror_laws.specs.Settled.{AskedFor, asked_by, asked_with, asked_in, asked_on, client_on, follows_all, is_following, TakesDump, SettledBy}
 use Rattle.wc_mirror_laws.specs.Example.{only_password, init_line, sync_line, dump_line, buffers_line, nicks_line, three_lines, ThreeLinesSettle, ThreeLinesSettleBuffers, ThreeLinesSettleNicks}
 use Rattle.wc_mirror_laws.proofs.AskedLemmas.{lists_nicks, asked_after, told_already}
+use Rattle.wc_eval.specs.Verdicts.{Oracle}
 
 -- ---- the requests
 
@@ -143,61 +144,18 @@ nicks_answered : (limit : ℕ) → reply_of (first_world limit) only_password sy
 unfolding reply_of served nicks_request synchronized
 nicks_answered limit = refl
 
--- ---- the run
-
-abbrev with_client : ℕ → Client → State
-with_client limit client = record (first_state only_password limit []) { clients = client ∷ []; used = 1 }
+-- ---- the client of the example
 
 most_are : client_limit only_password ≡ 5
 unfolding client_limit value_of with_value fresh located globals place_in number_in
 most_are = refl
 
--- the state after the arrival
-first_step : (limit : ℕ) → (step (first_state only_password limit []) (Arrives 1 [])).state ≡ with_client limit came
-first_step limit =
-    let state = first_state only_password limit [] in
-    ap (λ n. (cond (nat_lt 0 n) (no_step (with_client limit came)) (record { state = record state { used = 1 }; acts = Closes 1 cause.Surplus ∷ [] })).state) most_are
-
 found : (client : Client) → client_link client ≡ 1 → at_key client_link 1 (client ∷ []) ≡ Some client
 found client key = ap (λ n. cond (eqb n 1) (Some client) None) key
-
--- the state after a line
-line_state : (limit : ℕ) (client : Client) (line : List ℕ) (request : Request) (answer : Answer) → client_link client ≡ 1 → request_of client.escaped line ≡ Some request
-    → reply_of (first_world limit) only_password client request ≡ answer → (step (with_client limit client) (Line 1 line)).state ≡ (answer_step (with_client limit client) 1 answer).state
-line_state limit client line request answer key reads answered =
-    let state = with_client limit client in
-    ap (λ o. (link_line_step state 1 line o).state) (found client key) ∙ ap (λ o. (request_step state client o).state) reads
-    ∙ ap (λ (s : Stepped). s.state) (asked_after state client request) ∙ ap (λ s. (reply_step s client request).state) (told_already state (lists_nicks client request) refl) ∙ ap (λ a. (answer_step state (client_link client) a).state) answered ∙ ap (λ n. (answer_step state n answer).state) key
-
-silent_step : (limit : ℕ) (before after : Client) (line : List ℕ) (request : Request) → client_link before ≡ 1 → request_of before.escaped line ≡ Some request
-    → reply_of (first_world limit) only_password before request ≡ silent after → (step (with_client limit before) (Line 1 line)).state ≡ with_client limit after
-silent_step limit before after line request key reads answered =
-    line_state limit before line request (silent after) key reads answered
-    ∙ ap (λ n. record (first_state only_password limit []) { used = 1; clients = cond (eqb n 1) (after ∷ []) (before ∷ []) }) key
-
--- what is asked by it
-abbrev request_by : Client → Request → AskedFor
-request_by client request = record { client = client; request = request }
-
-line_asked : (limit : ℕ) (client : Client) (line : List ℕ) (request : Request) → client_link client ≡ 1 → request_of client.escaped line ≡ Some request
-    → asked_in 1 (with_client limit client) (Line 1 line) ≡ request_by client request ∷ []
-line_asked limit client line request key reads = ap (asked_by line) (found client key) ∙ ap (asked_with client) reads
-
-next_asked : (limit : ℕ) (before after : Client) (line : List ℕ) (request : Request) (events : List Event) → client_link before ≡ 1 → request_of before.escaped line ≡ Some request
-    → reply_of (first_world limit) only_password before request ≡ silent after
-    → asked_on 1 (with_client limit before) (Line 1 line ∷ events) ≡ request_by before request ∷ asked_on 1 (with_client limit after) events
-next_asked limit before after line request events key reads answered =
-    ap (λ a. a ++ asked_on 1 (step (with_client limit before) (Line 1 line)).state events) (line_asked limit before line request key reads)
-    ∙ ap (λ s. request_by before request ∷ asked_on 1 s events) (silent_step limit before after line request key reads answered)
 
 synced_link : client_link synced ≡ 1
 unfolding synchronized
 synced_link = refl
-
-replied_follows : (limit : ℕ) (messages : List WireMessage) → is_following (client_on 1 (answer_step (with_client limit synced) 1 (replies synced messages)).state) ≡ true
-unfolding synchronized
-replied_follows limit [] = refl
-replied_follows limit (m ∷ messages) = refl
 
 synced_known : synced.logged_in ≡ true
 unfolding synchronized
@@ -207,40 +165,86 @@ synced_follows : follows_all synced ≡ true
 unfolding synchronized
 synced_follows = refl
 
--- ---- the line of a dump
+-- what is asked by it
+abbrev request_by : Client → Request → AskedFor
+request_by client request = record { client = client; request = request }
 
-module _ (line : List ℕ) (request : Request) (told : ℕ → List WireMessage) (reads : request_of false line ≡ Some request)
-    (answered : (limit : ℕ) → reply_of (first_world limit) only_password synced request ≡ replies synced (told limit)) where
-  line_reads : request_of synced.escaped line ≡ Some request
+-- ---- the run
+
+module _ (oracle : Oracle) where
+  abbrev with_client : ℕ → Client → State
+  with_client limit client = record (first_state oracle only_password limit []) { clients = client ∷ []; used = 1 }
+
+  -- the state after the arrival
+  first_step : (limit : ℕ) → (step (first_state oracle only_password limit []) (Arrives 1 [])).state ≡ with_client limit came
+  first_step limit =
+      let state = first_state oracle only_password limit [] in
+      ap (λ n. (cond (nat_lt 0 n) (no_step (with_client limit came)) (record { state = record state { used = 1 }; acts = Closes 1 cause.Surplus ∷ [] })).state) most_are
+
+  -- the state after a line
+  line_state : (limit : ℕ) (client : Client) (line : List ℕ) (request : Request) (answer : Answer) → client_link client ≡ 1 → request_of client.escaped line ≡ Some request
+      → reply_of (first_world limit) only_password client request ≡ answer → (step (with_client limit client) (Line 1 line)).state ≡ (answer_step (with_client limit client) 1 answer).state
+  line_state limit client line request answer key reads answered =
+      let state = with_client limit client in
+      ap (λ o. (link_line_step state 1 line o).state) (found client key) ∙ ap (λ o. (request_step state client o).state) reads
+      ∙ ap (λ (s : Stepped). s.state) (asked_after state client request) ∙ ap (λ s. (reply_step s client request).state) (told_already state (lists_nicks client request) refl) ∙ ap (λ a. (answer_step state (client_link client) a).state) answered ∙ ap (λ n. (answer_step state n answer).state) key
+
+  silent_step : (limit : ℕ) (before after : Client) (line : List ℕ) (request : Request) → client_link before ≡ 1 → request_of before.escaped line ≡ Some request
+      → reply_of (first_world limit) only_password before request ≡ silent after → (step (with_client limit before) (Line 1 line)).state ≡ with_client limit after
+  silent_step limit before after line request key reads answered =
+      line_state limit before line request (silent after) key reads answered
+      ∙ ap (λ n. record (first_state oracle only_password limit []) { used = 1; clients = cond (eqb n 1) (after ∷ []) (before ∷ []) }) key
+
+  line_asked : (limit : ℕ) (client : Client) (line : List ℕ) (request : Request) → client_link client ≡ 1 → request_of client.escaped line ≡ Some request
+      → asked_in 1 (with_client limit client) (Line 1 line) ≡ request_by client request ∷ []
+  line_asked limit client line request key reads = ap (asked_by line) (found client key) ∙ ap (asked_with client) reads
+
+  next_asked : (limit : ℕ) (before after : Client) (line : List ℕ) (request : Request) (events : List Event) → client_link before ≡ 1 → request_of before.escaped line ≡ Some request
+      → reply_of (first_world limit) only_password before request ≡ silent after
+      → asked_on 1 (with_client limit before) (Line 1 line ∷ events) ≡ request_by before request ∷ asked_on 1 (with_client limit after) events
+  next_asked limit before after line request events key reads answered =
+      ap (λ a. a ++ asked_on 1 (step (with_client limit before) (Line 1 line)).state events) (line_asked limit before line request key reads)
+      ∙ ap (λ s. request_by before request ∷ asked_on 1 s events) (silent_step limit before after line request key reads answered)
+
+  replied_follows : (limit : ℕ) (messages : List WireMessage) → is_following (client_on 1 (answer_step (with_client limit synced) 1 (replies synced messages)).state) ≡ true
   unfolding synchronized
-  line_reads = reads
+  replied_follows limit [] = refl
+  replied_follows limit (m ∷ messages) = refl
 
-  all_asked : (limit : ℕ) → asked_on 1 (first_state only_password limit []) (three_lines line) ≡ request_by came init_request ∷ request_by known sync_request ∷ request_by synced request ∷ []
-  all_asked limit =
-      ap (λ s. asked_on 1 s (Line 1 init_line ∷ Line 1 sync_line ∷ Line 1 line ∷ [])) (first_step limit)
-      ∙ next_asked limit came known init_line init_request (Line 1 sync_line ∷ Line 1 line ∷ []) refl init_reads (init_answered limit)
-      ∙ ap (λ a. request_by came init_request ∷ a) (next_asked limit known synced sync_line sync_request (Line 1 line ∷ []) refl sync_reads (sync_answered limit))
-      ∙ ap (λ a. request_by came init_request ∷ request_by known sync_request ∷ (a ++ [])) (line_asked limit synced line request synced_link line_reads)
+  -- ---- the line of a dump
 
-  still : (limit : ℕ) → is_following (client_on 1 (run (first_state only_password limit []) (three_lines line)).state) ≡ true
-  still limit =
-      ap (λ s. is_following (client_on 1 (step (step (step s (Line 1 init_line)).state (Line 1 sync_line)).state (Line 1 line)).state)) (first_step limit)
-      ∙ ap (λ s. is_following (client_on 1 (step (step s (Line 1 sync_line)).state (Line 1 line)).state)) (silent_step limit came known init_line init_request refl init_reads (init_answered limit))
-      ∙ ap (λ s. is_following (client_on 1 (step s (Line 1 line)).state)) (silent_step limit known synced sync_line sync_request refl sync_reads (sync_answered limit))
-      ∙ ap (λ s. is_following (client_on 1 s)) (line_state limit synced line request (replies synced (told limit)) synced_link line_reads (answered limit))
-      ∙ replied_follows limit (told limit)
+  module _ (line : List ℕ) (request : Request) (told : ℕ → List WireMessage) (reads : request_of false line ≡ Some request)
+      (answered : (limit : ℕ) → reply_of (first_world limit) only_password synced request ≡ replies synced (told limit)) where
+    line_reads : request_of synced.escaped line ≡ Some request
+    unfolding synchronized
+    line_reads = reads
 
-  settles_by : (which : HeldPart) (id : List ℕ) (limit : ℕ) → TakesDump which id (request_by synced request) → SettledBy which 1 id (first_state only_password limit []) (three_lines line)
-  settles_by which id limit takes = record {
-    before = request_by came init_request ∷ request_by known sync_request ∷ [];
-    dump = request_by synced request;
-    following = [];
-    asked = all_asked limit;
-    takes = takes;
-    fair = tt;
-    follows = (synced_follows, tt);
-    still = still limit;
-  }
+    all_asked : (limit : ℕ) → asked_on 1 (first_state oracle only_password limit []) (three_lines line) ≡ request_by came init_request ∷ request_by known sync_request ∷ request_by synced request ∷ []
+    all_asked limit =
+        ap (λ s. asked_on 1 s (Line 1 init_line ∷ Line 1 sync_line ∷ Line 1 line ∷ [])) (first_step limit)
+        ∙ next_asked limit came known init_line init_request (Line 1 sync_line ∷ Line 1 line ∷ []) refl init_reads (init_answered limit)
+        ∙ ap (λ a. request_by came init_request ∷ a) (next_asked limit known synced sync_line sync_request (Line 1 line ∷ []) refl sync_reads (sync_answered limit))
+        ∙ ap (λ a. request_by came init_request ∷ request_by known sync_request ∷ (a ++ [])) (line_asked limit synced line request synced_link line_reads)
+
+    still : (limit : ℕ) → is_following (client_on 1 (run (first_state oracle only_password limit []) (three_lines line)).state) ≡ true
+    still limit =
+        ap (λ s. is_following (client_on 1 (step (step (step s (Line 1 init_line)).state (Line 1 sync_line)).state (Line 1 line)).state)) (first_step limit)
+        ∙ ap (λ s. is_following (client_on 1 (step (step s (Line 1 sync_line)).state (Line 1 line)).state)) (silent_step limit came known init_line init_request refl init_reads (init_answered limit))
+        ∙ ap (λ s. is_following (client_on 1 (step s (Line 1 line)).state)) (silent_step limit known synced sync_line sync_request refl sync_reads (sync_answered limit))
+        ∙ ap (λ s. is_following (client_on 1 s)) (line_state limit synced line request (replies synced (told limit)) synced_link line_reads (answered limit))
+        ∙ replied_follows limit (told limit)
+
+    settles_by : (which : HeldPart) (id : List ℕ) (limit : ℕ) → TakesDump which id (request_by synced request) → SettledBy which 1 id (first_state oracle only_password limit []) (three_lines line)
+    settles_by which id limit takes = record {
+      before = request_by came init_request ∷ request_by known sync_request ∷ [];
+      dump = request_by synced request;
+      following = [];
+      asked = all_asked limit;
+      takes = takes;
+      fair = tt;
+      follows = (synced_follows, tt);
+      still = still limit;
+    }
 
 dump_asked : TakesDump Lines (codes "l") (request_by synced dump_request)
 unfolding dump_request
@@ -255,10 +259,10 @@ unfolding nicks_request
 nicks_asked = record { logged_in = synced_known; dump = refl; under = refl }
 
 pub three_lines_settle : ThreeLinesSettle
-three_lines_settle limit = settles_by dump_line dump_request told dump_reads dump_answered Lines (codes "l") limit dump_asked
+three_lines_settle oracle limit = settles_by oracle dump_line dump_request told dump_reads dump_answered Lines (codes "l") limit dump_asked
 
 pub three_lines_settle_buffers : ThreeLinesSettleBuffers
-three_lines_settle_buffers limit = settles_by buffers_line buffers_request told_buffers buffers_read buffers_answered Buffers (codes "b") limit buffers_asked
+three_lines_settle_buffers oracle limit = settles_by oracle buffers_line buffers_request told_buffers buffers_read buffers_answered Buffers (codes "b") limit buffers_asked
 
 pub three_lines_settle_nicks : ThreeLinesSettleNicks
-three_lines_settle_nicks limit = settles_by nicks_line nicks_request told_nicks nicks_read nicks_answered Nicks (codes "n") limit nicks_asked
+three_lines_settle_nicks oracle limit = settles_by oracle nicks_line nicks_request told_nicks nicks_read nicks_answered Nicks (codes "n") limit nicks_asked

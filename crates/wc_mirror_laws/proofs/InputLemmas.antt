@@ -1,5 +1,5 @@
 -- What is typed reaches the client that follows.
-use Rattle.std.proofs.Common.{ℕ, Bool, true, false, cond, not, List, [], ◌∷◌, Option, Some, None, refl, IsUtf8}
+use Rattle.std.proofs.Common.{◌≡◌, ℕ, zero, suc, Bool, true, false, cond, not, List, [], ◌∷◌, Option, Some, None, refl, IsUtf8}
 use Rattle.std.specs.List.{AllByRecursion}
 use Rattle.wc_text.specs.declared.names.Handle.{Handle}
 use Rattle.wc_text.specs.Splits.{BeginsWithout}
@@ -10,10 +10,10 @@ use Rattle.wc_options.specs.declared.refusal.SetRefused.{SetRefused}
 use Rattle.wc_options.specs.declared.refusal.SetRefused.TheVariants.{UnknownOption}
 use Rattle.wc_core.specs.Resolved.{Effect, Stays, Ends as ResolvedEnds, Tells as TellsRefusal, Asks, SetsOption, UnsetsOption, SavesOptions, effect_of, option_text}
 use Rattle.wc_core.specs.State.{State, Stepped, has_end}
-use Rattle.wc_core.specs.Step.{no_step, then_does, set_step_if, unset_step_if, ask_step, effect_step, other_of, input_by, input_step, is_quit, lines_step, core_buffer, commands_step, start_step}
+use Rattle.wc_core.specs.Step.{no_step, then_does, set_step_if, unset_step_if, ask_step, effect_step, other_of, input_by, input_step, lines_step, core_buffer, commands_step, start_step, plain_step, Evaluation, evaluated_by, input_with, eval_step, evaluation_at}
 use Rattle.wc_core.specs.ServerSteps.{before_step}
 use Rattle.wc_core.specs.ServerTyped.{connect_all_step}
-use Rattle.wc_core.specs.Typed.{typed_line, lines_of_text}
+use Rattle.wc_core.specs.Typed.{typed_line, lines_of_text, evaluation_of}
 use Rattle.wc_mirror_laws.specs.Changes.{IsTold}
 use Rattle.wc_mirror_laws.specs.Held.{HeldPart}
 use Rattle.wc_mirror_laws.specs.Kept.{IsStateKept}
@@ -21,6 +21,13 @@ use Rattle.wc_mirror_laws.proofs.ChangeLemmas.{Tells, Tells-stays, Tells-then, T
 use Rattle.wc_mirror_laws.proofs.ServedLemmas.{Tells-all, Tells-serves}
 use Rattle.wc_mirror_laws.proofs.ServerLemmas.{Tells-before, Tells-quits}
 use Rattle.wc_mirror_laws.proofs.TypedLemmas.{OnAsks, parted_text, typed_text, resolved_told}
+use Rattle.wc_core.specs.Evaluated.{value_at, holds_at, answer_text, printed_value}
+use Rattle.std.specs.Str.{is_utf8}
+use Rattle.std.proofs.lemmas.Str.{IsUtf8-from_is_utf8}
+use Rattle.std.proofs.lemmas.List.Elements.{All-nil}
+use Rattle.wc_mirror_laws.proofs.PrintLemmas.{level_fits}
+use Rattle.wc_core.specs.declared.typed_eval.EvalUse.{EvalUse}
+use Rattle.wc_core.specs.declared.typed_eval.EvalUse.TheVariants as eval
 
 -- the options have no part in what is held
 Tells-options : (which : HeldPart) (limit link : ℕ) (id : List ℕ) (state : State) (options : OptionsValue) → IsStateKept limit link state → Tells which limit link id state (no_step (record state { options = options }))
@@ -50,20 +57,57 @@ Tells-resolved which limit link id state (SetsOption name value) free kept told 
 Tells-resolved which limit link id state (UnsetsOption name) free kept told = Tells-unsets which limit link id state name (value_of state.options name) free kept
 Tells-resolved which limit link id state SavesOptions free kept told = record { following = refl; kept = record { most = kept.most; world = kept.world; told = kept.told; texts = kept.texts; first = kept.first }; spelt = tt; right = λ follows part had. had }
 
-Tells-does : (which : HeldPart) (limit link : ℕ) (id : List ℕ) (state : State) (buffer : Handle) (line : List ℕ) → BeginsWithout 95 id → IsStateKept limit link state → IsUtf8 line
-    → Tells which limit link id state (input_step state buffer line)
-Tells-does which limit link id state buffer line free kept utf8 = by (other_of (typed_line line)) where
+Tells-plain : (which : HeldPart) (limit link : ℕ) (id : List ℕ) (state : State) (buffer : Handle) (line : List ℕ) → BeginsWithout 95 id → IsStateKept limit link state → IsUtf8 line
+    → Tells which limit link id state (plain_step state buffer line)
+Tells-plain which limit link id state buffer line free kept utf8 = by (other_of (typed_line line)) where
   by : (o : Option (List ℕ)) → Tells which limit link id state (input_by state buffer line o)
   by None =
       Tells-resolved which limit link id state (effect_of state.world state.moment buffer (typed_line line)) free kept
       (resolved_told limit state.world state.moment buffer (typed_line line) kept.world (typed_text line utf8))
   by (Some text) = Tells-serves which limit link id free state buffer line text kept
 
+-- ---- what is evaluated reaches it too, however many are inside one another
+
+abbrev TellsAll : HeldPart → ℕ → ℕ → List ℕ → Evaluation → Type 0
+TellsAll which limit link id evaluate = (state : State) (buffer : Handle) (usage : EvalUse) (text : List ℕ) → IsStateKept limit link state → Tells which limit link id state (evaluate state buffer usage text)
+
+Tells-evaluated : (which : HeldPart) (limit link : ℕ) (id : List ℕ) (evaluate : Evaluation) → BeginsWithout 95 id → TellsAll which limit link id evaluate → (state : State) (buffer : Handle) (line : List ℕ) (o : Option (EvalUse × List ℕ)) → IsStateKept limit link state → IsUtf8 line
+    → Tells which limit link id state (evaluated_by evaluate state buffer line o)
+Tells-evaluated which limit link id evaluate free all state buffer line None kept utf8 = Tells-plain which limit link id state buffer line free kept utf8
+Tells-evaluated which limit link id evaluate free all state buffer line (Some (usage, text)) kept utf8 = all state buffer usage text kept
+
+Tells-input : (which : HeldPart) (limit link : ℕ) (id : List ℕ) (evaluate : Evaluation) → BeginsWithout 95 id → TellsAll which limit link id evaluate → (state : State) (buffer : Handle) (line : List ℕ) → IsStateKept limit link state → IsUtf8 line
+    → Tells which limit link id state (input_with evaluate state buffer line)
+Tells-input which limit link id evaluate free all state buffer line kept utf8 = Tells-evaluated which limit link id evaluate free all state buffer line (evaluation_of (typed_line line)) kept utf8
+
+Tells-printed : (which : HeldPart) (limit link : ℕ) (id : List ℕ) (state : State) (value : List ℕ) → BeginsWithout 95 id → IsStateKept limit link state → Tells which limit link id state (ask_step state (printed_value state.moment value))
+Tells-printed which limit link id state value free kept = Tells-asks which limit link id state (printed_value state.moment value) free kept (All-nil IsUtf8, level_fits [] false)
+
+Tells-eval : (which : HeldPart) (limit link : ℕ) (id : List ℕ) (evaluate : Evaluation) → BeginsWithout 95 id → TellsAll which limit link id evaluate → TellsAll which limit link id (eval_step (input_with evaluate))
+Tells-eval which limit link id evaluate free all state buffer eval.Run text kept = by (is_utf8 value) refl where
+  value : List ℕ
+  value = value_at state buffer text
+
+  by : (t : Bool) → is_utf8 value ≡ t → Tells which limit link id state (cond t (input_with evaluate state buffer value) (no_step state))
+  by true e = Tells-input which limit link id evaluate free all state buffer value kept (IsUtf8-from_is_utf8 value e)
+  by false e = Tells-stays which limit link id state kept
+Tells-eval which limit link id evaluate free all state buffer eval.Print text kept = Tells-printed which limit link id state (value_at state buffer text) free kept
+Tells-eval which limit link id evaluate free all state buffer eval.Test text kept = Tells-printed which limit link id state (answer_text (holds_at state buffer text)) free kept
+
+Tells-levels : (which : HeldPart) (limit link : ℕ) (id : List ℕ) (levels : ℕ) → BeginsWithout 95 id → TellsAll which limit link id (evaluation_at levels)
+unfolding evaluation_at
+Tells-levels which limit link id zero free = λ state buffer usage text kept. Tells-stays which limit link id state kept
+Tells-levels which limit link id (suc levels) free = Tells-eval which limit link id (evaluation_at levels) free (Tells-levels which limit link id levels free)
+
+Tells-does : (which : HeldPart) (limit link : ℕ) (id : List ℕ) (state : State) (buffer : Handle) (line : List ℕ) → BeginsWithout 95 id → IsStateKept limit link state → IsUtf8 line
+    → Tells which limit link id state (input_step state buffer line)
+Tells-does which limit link id state buffer line free kept utf8 = Tells-input which limit link id (evaluation_at 32) free (Tells-levels which limit link id 32 free) state buffer line kept utf8
+
 pub Tells-runs : (which : HeldPart) (limit link : ℕ) (id : List ℕ) (state : State) (buffer : Handle) (lines : List (List ℕ)) → BeginsWithout 95 id → IsStateKept limit link state → AllByRecursion IsUtf8 lines
     → Tells which limit link id state (lines_step state buffer lines)
 Tells-runs which limit link id state buffer [] free kept utf8 = Tells-stays which limit link id state kept
 Tells-runs which limit link id state buffer (line ∷ lines) free kept utf8 =
-    by (not (is_there buffer state.world.groups)) (is_quit (typed_line line)) (Tells-does which limit link id state buffer line free kept utf8.0)
+    by (not (is_there buffer state.world.groups)) (has_end one.acts) (Tells-does which limit link id state buffer line free kept utf8.0)
     (λ next k. Tells-runs which limit link id next buffer lines free k utf8.1)
   where
     one : Stepped

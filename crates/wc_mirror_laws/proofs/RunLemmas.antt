@@ -16,6 +16,7 @@ use Rattle.wc_mirror_laws.proofs.ListLemmas.{all_front, all_back}
 use Rattle.wc_mirror_laws.proofs.WorldLemmas.{first_lists, first_kept}
 use Rattle.wc_mirror_laws.proofs.StepLemmas.{step_keeps, followed}
 use Rattle.wc_mirror_laws.proofs.EventLemmas.{asked_one, step_mirrors, dump_mirrors}
+use Rattle.wc_eval.specs.Verdicts.{Oracle}
 
 abbrev Follows : AskedFor → Type 0
 Follows asked = follows_all asked.client ≡ true
@@ -119,19 +120,19 @@ settles which limit link id state (event ∷ events) part before following dump 
 
 -- ---- from the start
 
-pub start_kept : (limit link : ℕ) (options : OptionsValue) (commands : List (List ℕ)) (connects : Bool) → limit ≤ 4096 → AllByRecursion IsUtf8 commands → IsStateKept limit link (beginning options limit commands connects)
-start_kept limit link options commands connects most texts = record { most = most; world = first_kept limit; told = first_lists; texts = texts; first = refl }
+pub start_kept : (limit link : ℕ) (oracle : Oracle) (options : OptionsValue) (commands : List (List ℕ)) (connects : Bool) → limit ≤ 4096 → AllByRecursion IsUtf8 commands → IsStateKept limit link (beginning oracle options limit commands connects)
+start_kept limit link oracle options commands connects most texts = record { most = most; world = first_kept limit; told = first_lists; texts = texts; first = refl }
 
 kept_on : (limit link : ℕ) (state : State) (events : List Event) → IsStateKept limit link state → IsStateKept limit link (run state events).state
 kept_on limit link state [] kept = kept
 kept_on limit link state (event ∷ events) kept = kept_on limit link (step state event).state events (step_keeps limit link state event kept)
 
 pub run_keeps : RunKeeps
-run_keeps options limit commands connects events link most texts = kept_on limit link (beginning options limit commands connects) events (start_kept limit link options commands connects most texts)
+run_keeps oracle options limit commands connects events link most texts = kept_on limit link (beginning oracle options limit commands connects) events (start_kept limit link oracle options commands connects most texts)
 
 pub mirrors : (which : HeldPart) → Mirrors which
-mirrors which options limit commands connects events link id most texts within settled =
-    settles which limit link id (beginning options limit commands connects) events (nothing which) settled.before settled.following settled.dump (start_kept limit link options commands connects most texts) within
+mirrors which oracle options limit commands connects events link id most texts within settled =
+    settles which limit link id (beginning oracle options limit commands connects) events (nothing which) settled.before settled.following settled.dump (start_kept limit link oracle options commands connects most texts) within
     (record {
       takes = settled.takes;
       fair = settled.fair;

@@ -21,12 +21,14 @@ use Rattle.wc_model.specs.World.{World}
 use Rattle.wc_text.specs.Splits.{onward, text_after, word_of, rest_of}
 use Rattle.wc_relaycmd.proofs.Utf8Lemmas.{cut_text, put_byte, before_text, past_text}
 use Rattle.wc_core.specs.Resolved.{Effect, Stays, Ends, Tells, Asks, SetsOption, UnsetsOption, SavesOptions, switched, buffer_meant, of_meant, of_named, change_of, line_spec, plugin_in, effect_of}
-use Rattle.wc_core.specs.Typed.{TypedCommand, Nothing, Quits, Refused, Others, Prints, Adds, Closes, Merges, Names, Changes, Sets, Unsets, Switches, Saves, save_command, switch_command, input_command, set_option, set_command, unset_command, option_command, unknown_command, wrong_arguments, lines_parted, lines_of_text, print_unless_empty, print_words, tags_of, is_first, second_of, after_second, print_tagged, print_on, print_command, wrong_buffer, one_word, without_words, some_text, moves_to, close_command, starts, set_property, buffer_word, buffer_command, quit_command, command, slash_command, typed_line}
+use Rattle.wc_core.specs.Typed.{TypedCommand, Nothing, Quits, Refused, Others, Prints, Adds, Closes, Merges, Names, Changes, Sets, Unsets, Switches, Saves, save_command, switch_command, input_command, set_option, set_command, unset_command, option_command, unknown_command, wrong_arguments, lines_parted, lines_of_text, print_unless_empty, print_words, tags_of, is_first, second_of, after_second, print_tagged, print_on, print_command, wrong_buffer, one_word, without_words, some_text, moves_to, close_command, starts, set_property, buffer_word, buffer_command, quit_command, command, slash_command, typed_line, Evaluates, eval_text, eval_printed, eval_command}
 use Rattle.wc_mirror_laws.specs.Worlds.{IsBufferKept, IsWorldKept}
 use Rattle.wc_mirror_laws.proofs.ListLemmas.{all_filter}
 use Rattle.wc_mirror_laws.proofs.RowLemmas.{row_has}
 use Rattle.wc_mirror_laws.proofs.PrintLemmas.{level_fits}
 use Rattle.wc_mirror_laws.specs.Changes.{IsTold}
+use Rattle.wc_core.specs.declared.typed_eval.EvalUse.{EvalUse}
+use Rattle.wc_core.specs.declared.typed_eval.EvalUse.TheVariants as eval
 
 -- ---- parts of a text
 
@@ -110,6 +112,7 @@ IsTypedText (Sets name value) = Unit {0}
 IsTypedText (Unsets name) = Unit {0}
 IsTypedText (Switches name) = Unit {0}
 IsTypedText Saves = Unit {0}
+IsTypedText (Evaluates usage text) = IsUtf8 text
 
 if_text : (b : Bool) (x y : TypedCommand) → (b ≡ true → IsTypedText x) → IsTypedText y → IsTypedText (cond b x y)
 if_text true x y p q = p refl
@@ -249,15 +252,29 @@ input_text text =
     if_text (bytes_eq text (codes "set_unread_current_buffer")) Nothing (cond (bytes_eq text (codes "hotlist_clear")) Nothing (unknown_command (codes "input"))) (λ here. tt)
     (if_text (bytes_eq text (codes "hotlist_clear")) Nothing (unknown_command (codes "input")) (λ here. tt) tt)
 
+eval_use_text : (usage : EvalUse) (text : List ℕ) → IsUtf8 text → IsTypedText (eval_text usage text)
+eval_use_text usage [] utf8 = tt
+eval_use_text usage (b ∷ text) utf8 = utf8
+
+eval_printed_text : (text : List ℕ) → IsUtf8 text → IsTypedText (eval_printed text)
+eval_printed_text text utf8 =
+    if_text (is_first (codes "-c") text) (eval_text eval.Test (rest_of text)) (eval_text eval.Print text) (λ here. eval_use_text eval.Test (rest_of text) (rest_text text utf8)) (eval_use_text eval.Print text utf8)
+
+eval_command_text : (text : List ℕ) → IsUtf8 text → IsTypedText (eval_command text)
+eval_command_text text utf8 =
+    if_text (is_first (codes "-n") text) (eval_printed (rest_of text)) (eval_text eval.Run text) (λ here. eval_printed_text (rest_of text) (rest_text text utf8)) (eval_use_text eval.Run text utf8)
+
 command_text : (name rest : List ℕ) → IsUtf8 rest → IsTypedText (command name rest)
 command_text name rest utf8 =
-    let inputs = cond (bytes_eq name (codes "input")) (input_command rest) (option_command name rest) in
+    let evals = cond (bytes_eq name (codes "eval")) (eval_command rest) (option_command name rest) in
+    let inputs = cond (bytes_eq name (codes "input")) (input_command rest) evals in
     let quits = cond (bytes_eq name (codes "quit")) (quit_command rest) inputs in
     let buffers = cond (bytes_eq name (codes "buffer")) (buffer_command rest) quits in
     if_text (bytes_eq name (codes "print")) (print_command rest) buffers (λ here. print_text rest utf8)
     (if_text (bytes_eq name (codes "buffer")) (buffer_command rest) quits (λ here. words_text (word_of rest) (rest_of rest) (rest_text rest utf8))
     (if_text (bytes_eq name (codes "quit")) (quit_command rest) inputs (λ here. quit_text rest)
-    (if_text (bytes_eq name (codes "input")) (input_command rest) (option_command name rest) (λ here. input_text rest) (option_text name rest))))
+    (if_text (bytes_eq name (codes "input")) (input_command rest) evals (λ here. input_text rest)
+    (if_text (bytes_eq name (codes "eval")) (eval_command rest) (option_command name rest) (λ here. eval_command_text rest utf8) (option_text name rest)))))
 
 slashed_text : (text : List ℕ) → IsUtf8 text → IsTypedText (slash_command text)
 slashed_text [] utf8 = command_text [] [] utf8
@@ -333,3 +350,4 @@ resolved_told limit w moment buffer (Sets name value) is text = tt
 resolved_told limit w moment buffer (Unsets name) is text = tt
 resolved_told limit w moment buffer (Switches name) is text = switched_told (buffer_meant w.groups name)
 resolved_told limit w moment buffer Saves is text = tt
+resolved_told limit w moment buffer (Evaluates usage value) is text = tt

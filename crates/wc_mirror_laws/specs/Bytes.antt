@@ -14,6 +14,7 @@ use Rattle.wc_core.specs.Served.{messages_to, sent_to}
 use Rattle.wc_mirror_laws.specs.Held.{HeldPart, Lines, Buffers, Nicks, nothing, Has}
 use Rattle.wc_mirror_laws.specs.Settled.{SettledBy}
 use Rattle.wc_mirror_laws.specs.Mirrors.{fold_all, beginning, IsShortLine}
+use Rattle.wc_eval.specs.Verdicts.{Oracle}
 
 -- a message that keeps the rules, whose numbers are of their types
 pub record IsSpelt (message : WireMessage) : Type 0 where
@@ -50,21 +51,23 @@ SpellOnce = (bytes : List ℕ) (a b : List WireMessage) → Spell bytes a → Sp
 
 -- What is sent to a link spells the messages for it.
 abbrev pub RunSpells : Type 0
-RunSpells = (options : OptionsValue) (limit : ℕ) (commands : List (List ℕ)) (connects : Bool)
+RunSpells = (oracle : Oracle) (options : OptionsValue) (limit : ℕ)
+    (commands : List (List ℕ)) (connects : Bool)
     (events : List Event) (link : ℕ) → limit ≤ 4096 → AllByRecursion IsUtf8 commands
-    → Spell (sent_to link (run (beginning options limit commands connects) events).acts)
-    (messages_to link (run (beginning options limit commands connects) events).acts)
+    → Spell (sent_to link (run (beginning oracle options limit commands connects) events).acts)
+    (messages_to link (run (beginning oracle options limit commands connects) events).acts)
 
 -- Whoever settled by the dump of a part has exactly this part of the state, by all bytes that it
 -- was sent.
 abbrev pub PartShows : HeldPart → Type 0
-PartShows which = (options : OptionsValue) (limit : ℕ) (commands : List (List ℕ)) (connects : Bool)
+PartShows which = (oracle : Oracle) (options : OptionsValue) (limit : ℕ)
+    (commands : List (List ℕ)) (connects : Bool)
     (events : List Event) (link : ℕ) (id : List ℕ)
     → limit ≤ 4096 → AllByRecursion IsUtf8 commands → AllByRecursion IsShortLine events →
-    SettledBy which link id (beginning options limit commands connects) events
+    SettledBy which link id (beginning oracle options limit commands connects) events
     → ShowsPart which limit id
-    (sent_to link (run (beginning options limit commands connects) events).acts)
-    (run (beginning options limit commands connects) events).state
+    (sent_to link (run (beginning oracle options limit commands connects) events).acts)
+    (run (beginning oracle options limit commands connects) events).state
 
 -- the lines that each buffer holds
 abbrev pub BytesShow : Type 0

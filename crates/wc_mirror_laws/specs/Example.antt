@@ -4,6 +4,7 @@ use Rattle.wc_options.specs.Options.{OptionsValue, fresh, with_value}
 use Rattle.wc_core.specs.Events.{Event, Arrives, Line}
 use Rattle.wc_core.specs.State.{first_state}
 use Rattle.wc_mirror_laws.specs.Settled.{Settled, SettledBuffers, SettledNicks}
+use Rattle.wc_eval.specs.Verdicts.{Oracle}
 
 abbrev pub init_line : List ℕ
 init_line = codes "init password=x"
@@ -33,15 +34,18 @@ three_lines line = Arrives 1 [] ∷ Line 1 init_line ∷ Line 1 sync_line ∷ Li
 
 -- whoever takes the line dump by it has settled
 abbrev pub ThreeLinesSettle : Type 0
-ThreeLinesSettle = (limit : ℕ) → Settled 1 (codes "l") (first_state only_password limit [])
+ThreeLinesSettle = (oracle : Oracle) (limit : ℕ) → Settled 1 (codes "l")
+    (first_state oracle only_password limit [])
     (three_lines dump_line)
 
 -- and so has whoever takes the buffer dump
 abbrev pub ThreeLinesSettleBuffers : Type 0
-ThreeLinesSettleBuffers = (limit : ℕ) → SettledBuffers 1 (codes "b") (first_state only_password limit [])
+ThreeLinesSettleBuffers = (oracle : Oracle) (limit : ℕ) →
+    SettledBuffers 1 (codes "b") (first_state oracle only_password limit [])
     (three_lines buffers_line)
 
 -- and whoever takes the nicklists of all buffers
 abbrev pub ThreeLinesSettleNicks : Type 0
-ThreeLinesSettleNicks = (limit : ℕ) → SettledNicks 1 (codes "n") (first_state only_password limit [])
+ThreeLinesSettleNicks = (oracle : Oracle) (limit : ℕ) →
+    SettledNicks 1 (codes "n") (first_state oracle only_password limit [])
     (three_lines nicks_line)

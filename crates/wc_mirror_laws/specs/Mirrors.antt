@@ -20,6 +20,7 @@ use Rattle.wc_mirror_laws.specs.Settled.{AskedFor, asked_in, client_on, is_follo
 use Rattle.wc_mirror_laws.specs.Settled.{TakesDump, SettledBy}
 use Rattle.wc_mirror_laws.specs.Changes.{IsTold}
 use Rattle.wc_mirror_laws.specs.Kept.{IsStateKept}
+use Rattle.wc_eval.specs.Verdicts.{Oracle}
 
 -- what a client has of a part after one message and another
 abbrev pub fold_all : (which : HeldPart) → ℕ → List ℕ → HeldOf which → List WireMessage →
@@ -34,8 +35,8 @@ abbrev pub mirror_after : (which : HeldPart) → ℕ → ℕ → List ℕ → He
 mirror_after which limit link id part acts = fold_all which limit id part (messages_to link acts)
 
 -- the state before the start, where servers are connected by themselves or are not
-abbrev pub beginning : OptionsValue → ℕ → List (List ℕ) → Bool → State
-beginning options limit commands connects = record (first_state options limit commands) {
+abbrev pub beginning : Oracle → OptionsValue → ℕ → List (List ℕ) → Bool → State
+beginning oracle options limit commands connects = record (first_state oracle options limit commands) {
   connects = connects;
 }
 
@@ -47,13 +48,14 @@ IsShortLine _ = Unit {0}
 -- Whoever settled by the dump of a part has exactly this part of the world, by all messages that it
 -- was sent.
 abbrev pub Mirrors : HeldPart → Type 0
-Mirrors which = (options : OptionsValue) (limit : ℕ) (commands : List (List ℕ)) (connects : Bool)
+Mirrors which = (oracle : Oracle) (options : OptionsValue) (limit : ℕ)
+    (commands : List (List ℕ)) (connects : Bool)
     (events : List Event) (link : ℕ) (id : List ℕ)
     → limit ≤ 4096 → AllByRecursion IsUtf8 commands → AllByRecursion IsShortLine events →
-    SettledBy which link id (beginning options limit commands connects) events
+    SettledBy which link id (beginning oracle options limit commands connects) events
     → Has which (mirror_after which limit link id (nothing which)
-    (run (beginning options limit commands connects) events).acts)
-    (run (beginning options limit commands connects) events).state
+    (run (beginning oracle options limit commands connects) events).acts)
+    (run (beginning oracle options limit commands connects) events).state
 
 -- One event: a client that had the part, and that is open and follows all events afterwards, has it
 -- still.
@@ -83,9 +85,10 @@ StepKeeps = (limit link : ℕ) (state : State) (event : Event) → IsStateKept l
     IsStateKept limit link (step state event).state
 
 abbrev pub RunKeeps : Type 0
-RunKeeps = (options : OptionsValue) (limit : ℕ) (commands : List (List ℕ)) (connects : Bool)
+RunKeeps = (oracle : Oracle) (options : OptionsValue) (limit : ℕ)
+    (commands : List (List ℕ)) (connects : Bool)
     (events : List Event) (link : ℕ) → limit ≤ 4096 → AllByRecursion IsUtf8 commands →
-    IsStateKept limit link (run (beginning options limit commands connects) events).state
+    IsStateKept limit link (run (beginning oracle options limit commands connects) events).state
 
 -- The same of an accepted change of any kind, be it of a nicklist, and whoever asked for it.
 abbrev pub ChangeKeeps : Type 0

@@ -14,7 +14,7 @@ use Rattle.wc_options.specs.Options.{OptionsValue}
 use Rattle.wc_board.specs.Connections.{connection_link, is_open, left_if, left_at, new_connection}
 use Rattle.wc_core.specs.Served.{links_of, state_of, WereTold, Means, refusal, Absent, AdmitsUnlessStarved}
 use Rattle.wc_core.specs.Limits.{client_limit}
-use Rattle.wc_board.specs.Told.{Told}
+use Rattle.wc_core.specs.State.{Beside, beside}
 use Rattle.wc_servers.specs.Seats.{SeatView, ServersView, seat_link, open_in, used_up, forgotten}
 use Rattle.wc_turns.specs.declared.links.LinkState.{LinkState}
 use Rattle.wc_turns.specs.declared.links.Closed.{Closed}
@@ -86,22 +86,22 @@ calm-as old new link e calm = record { parted = ap closes_asked e ∙ calm.parte
 stepped-same : (p : Stepped) (state : State) (acts : List Act) → p.state ≡ state → p.acts ≡ acts → p ≡ record { state = state; acts = acts }
 stepped-same p state acts e f = rw (← e, ← f) refl
 
-arrival-told : (state : State) (link : ℕ) (nonce : List ℕ) → (step state (Arrives link nonce)).state.told ≡ state.told
+arrival-told : (state : State) (link : ℕ) (nonce : List ℕ) → beside (step state (Arrives link nonce)).state ≡ beside state
 arrival-told state link nonce = by (nat_lt (length state.clients) (client_limit state.options)) _ _ refl refl
   where
-    by : (t : Bool) (x y : Stepped) → x.state.told ≡ state.told → y.state.told ≡ state.told → (cond t x y).state.told ≡ state.told
+    by : (t : Bool) (x y : Stepped) → beside x.state ≡ beside state → beside y.state ≡ beside state → beside (cond t x y).state ≡ beside state
     by true x y p q = p
     by false x y p q = q
 
-arrival-state : (old new : CoreView) (link : ℕ) (nonce : List ℕ) (told : Told) → new ≡ record old { servers = used_up link old.servers; starved = new.starved } → Means new (step (state_of old told) (Arrives link nonce)).state
+arrival-state : (old new : CoreView) (link : ℕ) (nonce : List ℕ) (told : Beside) → new ≡ record old { servers = used_up link old.servers; starved = new.starved } → Means new (step (state_of old told) (Arrives link nonce)).state
     → (step (state_of old told) (Arrives link nonce)).state ≡ record (state_of old told) { used = max old.servers.used link }
 arrival-state old new link nonce told core means =
     let stepped = step (state_of old told) (Arrives link nonce) in
-    means.same ∙ ap (λ (c : CoreView). state_of c stepped.state.told) core ∙ ap (λ (rows : Told). record (state_of old rows) { used = max old.servers.used link }) (arrival-told (state_of old told) link nonce)
+    means.same ∙ ap (λ (c : CoreView). state_of c (beside stepped.state)) core ∙ ap (λ (rows : Beside). record (state_of old rows) { used = max old.servers.used link }) (arrival-told (state_of old told) link nonce)
 
 -- a refused client is none
-pub refused-step : (old new : CoreView) (link : ℕ) (nonce : List ℕ) (why : Cause) → new ≡ record old { servers = used_up link old.servers; starved = new.starved } → (Absent link (links_of old) → (told : Told) → AdmitsUnlessStarved told link old new (Some why) (step (state_of old told) (Arrives link nonce)))
-    → new.starved ≡ old.starved → old.starved < 2 ^ 64 - 1 → has_party link old ≡ false → (told : Told) → WereTold old told → step (state_of old told) (Arrives link nonce) ≡ record { state = record (state_of old told) { used = max old.servers.used link }; acts = refusal link (Some why) }
+pub refused-step : (old new : CoreView) (link : ℕ) (nonce : List ℕ) (why : Cause) → new ≡ record old { servers = used_up link old.servers; starved = new.starved } → (Absent link (links_of old) → (told : Beside) → AdmitsUnlessStarved told link old new (Some why) (step (state_of old told) (Arrives link nonce)))
+    → new.starved ≡ old.starved → old.starved < 2 ^ 64 - 1 → has_party link old ≡ false → (told : Beside) → WereTold old told → step (state_of old told) (Arrives link nonce) ≡ record { state = record (state_of old told) { used = max old.servers.used link }; acts = refusal link (Some why) }
 refused-step old new link nonce why core comes same below nobody told were =
     let absent = absent-missing connection_link link old.connections (no-client link old nobody) in
     let came = (comes absent told).comes same below were in

@@ -14,7 +14,7 @@ use Rattle.wc_outside.specs.declared.happening.Happening.{Happening}
 use Rattle.wc_outside.specs.declared.happening.Happening.TheVariants.{Refused}
 use Rattle.wc_board.specs.declared.connection.Connection.{Connection}
 use Rattle.wc_board.specs.Connections.{connection_link, is_open_at, leaving_in, leaving_on}
-use Rattle.wc_board.specs.Told.{Told}
+use Rattle.wc_core.specs.State.{Beside}
 use Rattle.wc_servers.specs.declared.wanted.Wanted.{Wanted}
 use Rattle.wc_servers.specs.Seats.{SeatView, AreSeats, seat_link, leaving_in as server_leaving_in, leaving_on as server_leaving_on}
 use Rattle.wc_core.specs.CoreView.{CoreView}
@@ -51,6 +51,8 @@ use Rattle.wc_turns.proofs.PartLemmas.{same-why, same-has}
 use Rattle.wc_turns.proofs.PartyLemmas.{or-assoc}
 use Rattle.wc_turns.proofs.ReadLemmas.{lost-has, lost-count, some-first, some-second}
 use Rattle.wc_turns.proofs.TurnLemmas.{AskingCall, LoopStep-ask}
+use Rattle.wc_eval.specs.Verdicts.{Stay}
+use Rattle.wc_core.proofs.OracleLemmas.{verdicts-same}
 
 -- the core with other connections that are still to be asked for
 abbrev pub with_wanted : List Wanted → CoreView → CoreView
@@ -159,9 +161,10 @@ LoopStep-unmade x x' y a b wanted others first same takes s' call used asked sen
       events = [];
       reaches = rw ran (ReachesEvents-none x.core.quits y.core.quits x.ran);
       rises = (let e = ap (λ (c : CoreView). c.starved) core in omega arith);
-      advances = λ still below rows were. advances t rows were;
+      verdicts = verdicts-same x.core.verdicts y.core.verdicts (ap (λ (c : CoreView). c.verdicts) core);
+      advances = λ still below rows were agrees. advances t rows were;
       silent = λ over. refl;
-      last = λ still below rows were going over. absurd (false≢true (sym going ∙ sym quits ∙ over));
+      last = λ still below rows were agrees going over. absurd (false≢true (sym going ∙ sym quits ∙ over));
     })
   where
     core : y.core ≡ with_wanted others x.core
@@ -202,7 +205,7 @@ LoopStep-unmade x x' y a b wanted others first same takes s' call used asked sen
         (For-named x.clock (x.links.opened.items ++ new_state wanted.link (Some wanted.server) true ∷ []) y.used y.used x.ran x.refused.items (x.refused.items ++ wanted.link ∷ []) x.unlisted x.unlisted a.taken wanted.link (omega arith)
         (let u = count in let w = s.within in let l = length-append x.refused.items (wanted.link ∷ []) in omega arith) one (λ z. z) (λ z. refl) (let l = length-append x.refused.items (wanted.link ∷ []) in omega arith) kept)
 
-    advances : IsTrue b.tells → (rows : Told) → WereTold x.core rows → MomentAdvances rows (moment x a) (moment y b) [] []
+    advances : IsTrue b.tells → (rows : Beside) → WereTold x.core rows → MomentAdvances rows (moment x a) (moment y b) [] []
     advances t rows were = MomentAdvances-none rows (moment x a) (moment y b)
         (rw core (record { same = refl; told = were })) quits
         (λ k. rw (count, core) (gone-same k x.used (eqb (x.used + 1) k) refl (has_party k x.core) (λ e. wanted-party x a wanted others first s' k (rw next e))))
@@ -399,9 +402,10 @@ LoopStep-dropped refused given x x' y a b wanted others first same drops s' call
       events = [];
       reaches = rw (ran, nothing) (ReachesEvents-none x.core.quits y.core.quits x.ran);
       rises = (let r = d.loses.keeps.rises in let e = ap (λ (c : CoreView). c.starved) d.core in omega arith);
-      advances = λ still below rows were. no-starving x.core.starved y.core.starved d.starved still below;
+      verdicts = subst (Stay x.core.verdicts) (sym (ap (λ (c : CoreView). c.verdicts) d.core)) d.loses.keeps.verdicts;
+      advances = λ still below rows were agrees. no-starving x.core.starved y.core.starved d.starved still below;
       silent = λ over. gives;
-      last = λ still below rows were going over. no-starving x.core.starved y.core.starved d.starved still below;
+      last = λ still below rows were agrees going over. no-starving x.core.starved y.core.starved d.starved still below;
     })
   where
     mid : x'.core ≡ with_wanted others x.core

@@ -7,7 +7,7 @@ use Rattle.wc_outside.specs.Seen.{Seen}
 use Rattle.wc_outside.specs.Keyed.{at_key, without}
 use Rattle.wc_board.specs.declared.connection.Departure.{Departure}
 use Rattle.wc_board.specs.Connections.{connection_link}
-use Rattle.wc_board.specs.Told.{Told}
+use Rattle.wc_core.specs.State.{Beside}
 use Rattle.wc_core.specs.CoreView.{CoreView}
 use Rattle.wc_core.specs.LinksSeen.{departure_in, unsent_in_core, gone_in}
 use Rattle.wc_core.specs.Served.{state_of, WereTold, Means, Distinct}
@@ -29,18 +29,19 @@ use Rattle.wc_turns.proofs.RunLemmas.{ReachesEvents-none}
 use Rattle.wc_turns.proofs.AgreesLemmas.{For-states, SameTails-without, SameKinds-without}
 use Rattle.wc_turns.proofs.CauseLemmas.{reasons-same, Onward-none}
 use Rattle.wc_turns.proofs.ForgetLemmas.{forgot, departed-party, departed-closes, forgot-state, and-not-true, and-not-false, closed-seen, forgot-party, forgot-other, forgot-here, forgot-alone, forgot-seats, forgot-order, forgot-sides}
-use Rattle.wc_turns.proofs.GoneLemmas.{some-given, gone-links, gone-closes, gone-wanted, gone-used, gone-quits, gone-starved, gone-saved, gone-unwritten, gone-has, gone-state, gone-handed, gone-nothing, gone-seated, gone-order, gone-alone, gone-sides, gone-world, gone-pending, same-unsent}
+use Rattle.wc_turns.proofs.GoneLemmas.{some-given, gone-links, gone-closes, gone-wanted, gone-used, gone-quits, gone-starved, gone-verdicts, gone-saved, gone-unwritten, gone-has, gone-state, gone-handed, gone-nothing, gone-seated, gone-order, gone-alone, gone-sides, gone-world, gone-pending, same-unsent}
 use Rattle.wc_turns.proofs.StepLemmas.{SameSets, among-same, OnlyLinks, LoopStep-flags}
 use Rattle.wc_turns.proofs.TurnLemmas.{Call, LoopStep-step, LoopStep-still, NeverFall-refl}
+use Rattle.wc_core.proofs.OracleLemmas.{verdicts-same}
 
 -- what the core means stays where the state does
-core-means : (old new : CoreView) (told : Told) → state_of new told ≡ state_of old told → new.world ≡ old.world → new.pending ≡ old.pending → WereTold old told → Means new (state_of old told)
+core-means : (old new : CoreView) (told : Beside) → state_of new told ≡ state_of old told → new.world ≡ old.world → new.pending ≡ old.pending → WereTold old told → Means new (state_of old told)
 core-means old new told state world pending were = record { same = sym state; told = rw (world, pending) were }
 
 -- the sockets gave and sent nothing
 pub LoopStep-quiet : (x : Headless) (a b : Seen) → Call a b [] → (IsTrue b.tells → (k : ℕ) → b.sent k ≡ a.sent k) → (IsTrue b.tells → (k : ℕ) → b.choked k ≡ a.choked k) → (IsTrue b.tells → b.asked ≡ a.asked) → SameSets a b → LoopStep true 0 0 x x a b
 LoopStep-quiet x a b call sent choked asked same =
-    LoopStep-still x x a b call refl refl refl refl (λ k h. h) refl refl (inl (refl, refl)) refl
+    LoopStep-still x x a b call refl refl refl refl refl (λ k h. h) refl refl (inl (refl, refl)) refl
     (among-same x.links.opened.items x.core x.used x.listening x.refused.items a b same)
     (λ t s. s)
     (λ t s rows were. MomentAdvances-same rows (moment x a) (moment x b) refl refl (sent t) (choked t) (ap (λ xs. xs ++ asks_of x.core.servers.wanted) (asked t)) [] (call.taken t) [] refl were tt)
@@ -63,7 +64,7 @@ LoopStep-sent x a b link count bytes u call sent choked asked same =
     let core = gone_in link count x.core o in
     let y : Headless = record x { core = core } in
     let wanted : core.servers.wanted ≡ x.core.servers.wanted = gone-wanted link count x.core o in
-    LoopStep-still x y a b call refl (gone-starved link count x.core o) (gone-quits link count x.core o) refl (λ k h. ((gone-sides link count x.core o refl).servers k h).0) (gone-used link count x.core o) wanted (inl (gone-unwritten link count x.core o, gone-saved link count x.core o))
+    LoopStep-still x y a b call refl (gone-starved link count x.core o) (gone-verdicts link count x.core o) (gone-quits link count x.core o) refl (λ k h. ((gone-sides link count x.core o refl).servers k h).0) (gone-used link count x.core o) wanted (inl (gone-unwritten link count x.core o, gone-saved link count x.core o))
     (ap (λ cs. x.links.closed.items ++ cs) (gone-closes link count x.core o refl))
     (λ t. record {
       counted = t.counted ∙ sym same.used;
@@ -244,9 +245,10 @@ LoopStep-close x y d a b leaving one wanted call sent choked asked used there un
       events = [];
       reaches = rw one.ran (ReachesEvents-none x.core.quits y.core.quits x.ran);
       rises = (let e = ap (λ (c : CoreView). c.starved) one.core in omega arith);
-      advances = λ same below rows were. advances t s rows were;
+      verdicts = verdicts-same x.core.verdicts y.core.verdicts (ap (λ (c : CoreView). c.verdicts) one.core);
+      advances = λ same below rows were agrees. advances t s rows were;
       silent = λ over. refl;
-      last = λ same below rows were going over. absurd (false≢true (sym going ∙ sym quits ∙ over));
+      last = λ same below rows were agrees going over. absurd (false≢true (sym going ∙ sym quits ∙ over));
     })
   where
     sides : OnOneSide x.core y.core []
@@ -262,9 +264,10 @@ LoopStep-close x y d a b leaving one wanted call sent choked asked used there un
         ∙ ap (λ c. (x.links.closed.items ++ closed ∷ []) ++ closes_asked c) one.core ∙ append_assoc x.links.closed.items (closed ∷ []) _
         ∙ ap (λ cs. x.links.closed.items ++ cs) (sym (departed-closes x.core d leaving s.among.once s.among.seats s.among.alone))
 
-    advances : IsTrue b.tells → AgreesWithSockets x a → (rows : Told) → WereTold x.core rows → MomentAdvances rows (moment x a) (moment y b) [] []
+    advances : IsTrue b.tells → AgreesWithSockets x a → (rows : Beside) → WereTold x.core rows → MomentAdvances rows (moment x a) (moment y b) [] []
     advances t s rows were = record {
       means = core-means x.core y.core rows (ap (λ c. state_of c rows) one.core ∙ forgot-state x.core d leaving s.among.once s.among.seats s.among.alone rows) (ap (λ (c : CoreView). c.world) one.core) (ap (λ (c : CoreView). c.pending) one.core) were;
+      oracle = refl;
       stops = tt;
       hands = λ k. close-hands k d.link.0 (moment x a) (moment y b) a.blocked (eqb k d.link.0) refl one.core one.used (call.taken t ∙ append-nil a.taken) (sent t k) (choked t k) (departed-party x.core d leaving)
           (used-known d.link.0 x.used (at_key link_number d.link.0 x.links.opened.items) (s.among.unknown d.link.0) (listed s) (nat_le d.link.0 x.used) refl)

@@ -11,7 +11,7 @@ use Rattle.wc_outside.specs.declared.happening.Happening.{Happening}
 use Rattle.wc_outside.specs.declared.happening.Happening.TheVariants.{Accepted}
 use Rattle.wc_outside.specs.Keyed.{at_key}
 use Rattle.wc_board.specs.Connections.{connection_link, new_connection, unsent_on as client_unsent_on}
-use Rattle.wc_board.specs.Told.{Told}
+use Rattle.wc_core.specs.State.{Beside}
 use Rattle.wc_servers.specs.Outs.{lines_to}
 use Rattle.wc_servers.specs.Seats.{ServersView, AreSeats, seat_link, used_up, unsent_on as server_unsent_on}
 use Rattle.wc_servers.proofs.SeatLemmas.{seats_same}
@@ -40,6 +40,7 @@ use Rattle.wc_turns.proofs.AgreesLemmas.{For-came, For-refused}
 use Rattle.wc_turns.proofs.CauseLemmas.{reasons-same, reasons-more, Onward}
 use Rattle.wc_turns.proofs.ForgetLemmas.{and-not-true, and-not-false}
 use Rattle.wc_turns.proofs.TurnLemmas.{Call, LoopStep-step, LoopStep-still}
+use Rattle.wc_core.proofs.OracleLemmas.{verdicts-same}
 
 pub came-flag : (f : Option LinkState → Bool) → f None ≡ false → (k : ℕ) (states : List LinkState) (state : LinkState) (t : Bool) → eqb (link_number state) k ≡ t → f (Some state) ≡ false → at_key link_number (link_number state) states ≡ None → f (at_key link_number k states) ≡ f (at_key link_number k (states ++ state ∷ []))
 came-flag f off-none k states state true e off none =
@@ -186,9 +187,10 @@ LoopStep-came x y a b link nonce comes admits going calm call next used limit se
       events = Arrives link.0 nonce ∷ [];
       reaches = ReachesEvents-all x.core.quits y.core.quits x.ran y.ran (Arrives link.0 nonce ∷ []) going (λ fits. comes.ran);
       rises = (let e = ap (λ (c : CoreView). c.starved) admits.core in omega arith);
-      advances = λ same below rows were. advances t s same below rows were;
+      verdicts = verdicts-same x.core.verdicts y.core.verdicts (ap (λ (c : CoreView). c.verdicts) admits.core);
+      advances = λ same below rows were agrees. advances t s same below rows were;
       silent = λ over. absurd (false≢true (sym going ∙ over));
-      last = λ same below rows were on over. absurd (false≢true (sym going ∙ sym (ap (λ (c : CoreView). c.quits) admits.core) ∙ over));
+      last = λ same below rows were agrees on over. absurd (false≢true (sym going ∙ sym (ap (λ (c : CoreView). c.quits) admits.core) ∙ over));
     })
   where
     next' : AgreesWithSockets x a → link.0 ≡ x.used + 1
@@ -206,13 +208,13 @@ LoopStep-came x y a b link nonce comes admits going calm call next used limit se
     closes : AgreesWithSockets x a → closed_so_far y ≡ closed_so_far x
     closes s = ap (λ xs. xs ++ closes_asked y.core) admits.closed ∙ ap (λ cs. x.links.closed.items ++ cs) ((comes.calm (nobody s) calm).parted ∙ sym calm.parted)
 
-    advances : IsTrue b.tells → AgreesWithSockets x a → y.core.starved ≡ x.core.starved → x.core.starved < 2 ^ 64 - 1 → (rows : Told) → WereTold x.core rows → MomentAdvances rows (moment x a) (moment y b) [] (Arrives link.0 nonce ∷ [])
+    advances : IsTrue b.tells → AgreesWithSockets x a → y.core.starved ≡ x.core.starved → x.core.starved < 2 ^ 64 - 1 → (rows : Beside) → WereTold x.core rows → MomentAdvances rows (moment x a) (moment y b) [] (Arrives link.0 nonce ∷ [])
     advances t s same below rows were =
         let absent = absent-missing connection_link link.0 x.core.connections (no-client link.0 x.core (nobody s)) in
         let came = (admits.step absent rows).comes same below were in
         let acts : (run (state_of x.core rows) (Arrives link.0 nonce ∷ [])).acts ≡ [] = ap (λ xs. xs ++ []) came.acts in
         let servers : y.core.servers ≡ used_up link.0 x.core.servers = ap (λ (c : CoreView). c.servers) admits.core in
-        MomentAdvances-comes rows (moment x a) (moment y b) [] (Arrives link.0 nonce ∷ []) (comes.used ∙ next' s) came.means (λ k. ap (owed_to k) acts) (subst (OnOneSide x.core y.core) (sym acts) (sides s))
+        MomentAdvances-comes rows (moment x a) (moment y b) [] (Arrives link.0 nonce ∷ []) (comes.used ∙ next' s) came.means (admits.step absent rows).oracle (λ k. ap (owed_to k) acts) (subst (OnOneSide x.core y.core) (sym acts) (sides s))
         (λ k. ap (λ bytes. bytes ++ server_unsent_on k y.core.servers.seats) (came.bytes k) ∙ ap (λ v. client_unsent_on k x.core.connections ++ server_unsent_on k v.seats) servers)
         (λ k. fresh_by k link.0 x.used (eqb link.0 k) refl (next' s) (has_party k x.core) (has_party k y.core) (ap (has_party k) admits.core ∙ came-party k x.core link nonce))
         (ap (λ (c : CoreView). c.quits) admits.core) (ap has_end acts) (sent t) (choked t)
@@ -301,7 +303,7 @@ gone-flag f off-none k link true e states none = let same : k ≡ link = grind (
 gone-flag f off-none k link false e states none = and-not-false _
 
 -- what the core means changes by the number that is used
-refused-means : (old new : CoreView) (link : ℕ) (told : Told) (state : State) → new ≡ refused_core old link new.starved → state ≡ record (state_of old told) { used = max old.servers.used link } → WereTold old told → Means new state
+refused-means : (old new : CoreView) (link : ℕ) (told : Beside) (state : State) → new ≡ refused_core old link new.starved → state ≡ record (state_of old told) { used = max old.servers.used link } → WereTold old told → Means new state
 refused-means old new link told state core same were =
     let P : CoreView → Type 0 = λ c. Means c state in
     let Q : State → Type 0 = λ s. Means (refused_core old link new.starved) s in
@@ -349,9 +351,10 @@ LoopStep-refused x y a b link nonce comes r going calm call next used limit sent
       events = Arrives link.0 nonce ∷ [];
       reaches = ReachesEvents-all x.core.quits y.core.quits x.ran y.ran (Arrives link.0 nonce ∷ []) going (λ fits. comes.ran);
       rises = r.rises;
-      advances = λ same below rows were. advances t same below rows were;
+      verdicts = verdicts-same x.core.verdicts y.core.verdicts (ap (λ (c : CoreView). c.verdicts) core);
+      advances = λ same below rows were agrees. advances t same below rows were;
       silent = λ over. absurd (false≢true (sym going ∙ over));
-      last = λ same below rows were on over. absurd (false≢true (sym going ∙ sym (ap (λ (c : CoreView). c.quits) core) ∙ over));
+      last = λ same below rows were agrees on over. absurd (false≢true (sym going ∙ sym (ap (λ (c : CoreView). c.quits) core) ∙ over));
     })
   where
     next' : link.0 ≡ x.used + 1
@@ -375,12 +378,13 @@ LoopStep-refused x y a b link nonce comes r going calm call next used limit sent
     closes : closed_so_far y ≡ closed_so_far x ++ closed_by link r.cause
     closes = ap (λ cs. y.links.closed.items ++ cs) ((comes.calm nobody calm).parted) ∙ append-nil _ ∙ r.closed absent ∙ ap (λ xs. xs ++ closed_by link r.cause) (sym (append-nil x.links.closed.items) ∙ ap (λ cs. x.links.closed.items ++ cs) (sym calm.parted))
 
-    advances : IsTrue b.tells → y.core.starved ≡ x.core.starved → x.core.starved < 2 ^ 64 - 1 → (rows : Told) → WereTold x.core rows → MomentAdvances rows (moment x a) (moment y b) (closed_by link r.cause) (Arrives link.0 nonce ∷ [])
+    advances : IsTrue b.tells → y.core.starved ≡ x.core.starved → x.core.starved < 2 ^ 64 - 1 → (rows : Beside) → WereTold x.core rows → MomentAdvances rows (moment x a) (moment y b) (closed_by link r.cause) (Arrives link.0 nonce ∷ [])
     advances t same below rows were =
         let stepped = r.step same below nobody rows were in
         let acts : (run (state_of x.core rows) (Arrives link.0 nonce ∷ [])).acts ≡ refusal link.0 r.cause ++ [] = ap (λ p. p.acts ++ []) stepped in
         record {
           means = refused-means x.core y.core link.0 rows (step (state_of x.core rows) (Arrives link.0 nonce)).state core (ap (λ p. p.state) stepped) were;
+          oracle = ap (λ p. p.state.oracle) stepped;
           stops = (λ q. refl, tt);
           hands = λ k. rw (acts, refusal-owed k link.0 r.cause)
               (refused-hands k link.0 y.core.starved (moment x a) (moment y b) (eqb k link.0) refl next' (comes.used ∙ next') nobody core (sent t k) (choked t k) (Accepted link nonce ∷ []) (call.taken t));
@@ -399,7 +403,7 @@ and-nothing false = refl
 pub LoopStep-idle : (x : Headless) (a b : Seen) → Call a b [] → (IsTrue b.tells → (k : ℕ) → b.sent k ≡ a.sent k) → (IsTrue b.tells → (k : ℕ) → b.choked k ≡ a.choked k) → (IsTrue b.tells → b.asked ≡ a.asked)
     → b.used ≡ a.used → ((k : ℕ) → b.there k ≡ a.there k) → ((k : ℕ) → b.undrained k ≡ a.undrained k) → ((k : ℕ) → b.blocked k ≡ a.blocked k) → b.listening ≡ (a.listening && not true) → LoopStep true 0 0 x (record x { listening = false }) a b
 LoopStep-idle x a b call sent choked asked used there undrained blocked listening =
-    LoopStep-still x (record x { listening = false }) a b call refl refl refl refl (λ k h. h) refl refl (inl (refl, refl)) refl
+    LoopStep-still x (record x { listening = false }) a b call refl refl refl refl refl (λ k h. h) refl refl (inl (refl, refl)) refl
     (λ s. record {
       counted = s.counted ∙ sym used;
       there = λ k. there k ∙ s.there k;

@@ -6,7 +6,7 @@ use Rattle.std.proofs.lemmas.List.{append-nil}
 use Rattle.wc_outside.specs.Seen.{Seen}
 use Rattle.wc_outside.specs.Keyed.{at_key}
 use Rattle.wc_core.specs.Served.{state_of, WereTold, Means, Distinct}
-use Rattle.wc_board.specs.Told.{Told}
+use Rattle.wc_core.specs.State.{Beside}
 use Rattle.wc_core.proofs.DidLemmas.{saves-as}
 use Rattle.wc_servers.specs.declared.wanted.Wanted.{Wanted}
 use Rattle.wc_turns.specs.declared.links.LinkState.{LinkState}
@@ -23,6 +23,7 @@ use Rattle.wc_turns.proofs.AgreesLemmas.{For-asked}
 use Rattle.wc_turns.proofs.CauseLemmas.{Onward-none, reasons-same}
 use Rattle.wc_turns.proofs.PartyLemmas.{or-assoc}
 use Rattle.wc_turns.proofs.TurnLemmas.{AskingCall, LoopStep-ask}
+use Rattle.wc_core.proofs.OracleLemmas.{verdicts-same}
 
 pub pushed-flag : (f : Option LinkState → Bool) → f None ≡ false → (k : ℕ) (states : List LinkState) (state : LinkState) (t : Bool) → eqb (link_number state) k ≡ t → f (Some state) ≡ false → at_key link_number (link_number state) states ≡ None → f (at_key link_number k states) ≡ f (at_key link_number k (states ++ state ∷ []))
 pushed-flag f off-none k states state true e off none =
@@ -75,9 +76,10 @@ LoopStep-begun x x' y a b wanted others first same takes call used asked sent ch
       events = [];
       reaches = rw ran (ReachesEvents-none x.core.quits y.core.quits x.ran);
       rises = (let e = ap (λ c. c.starved) core in omega arith);
-      advances = λ same' below told were. MomentAdvances-none told (moment x a) (moment y b) (means told were) (ap (λ c. c.quits) core) (gone s) (λ k. spoils t k) (λ k. rw (sent t k, unsent k) refl) (λ k e. sent t k) (rw core (OnOneSide-none x.core (record x.core { servers = record x.core.servers { wanted = others } }) refl (λ k e. e) (λ k e. e))) (asks t);
+      verdicts = verdicts-same x.core.verdicts y.core.verdicts (ap (λ c. c.verdicts) core);
+      advances = λ same' below told were agrees. MomentAdvances-none told (moment x a) (moment y b) (means told were) (ap (λ c. c.quits) core) (gone s) (λ k. spoils t k) (λ k. rw (sent t k, unsent k) refl) (λ k e. sent t k) (rw core (OnOneSide-none x.core (record x.core { servers = record x.core.servers { wanted = others } }) refl (λ k e. e) (λ k e. e))) (asks t);
       silent = λ over. refl;
-      last = λ same' below told were going over. absurd (false≢true (sym going ∙ sym (ap (λ c. c.quits) core) ∙ over));
+      last = λ same' below told were agrees going over. absurd (false≢true (sym going ∙ sym (ap (λ c. c.quits) core) ∙ over));
     })
   where
     core : y.core ≡ record x.core { servers = record x.core.servers { wanted = others } }
@@ -106,7 +108,7 @@ LoopStep-begun x x' y a b wanted others first same takes call used asked sent ch
         (For-asked x.clock x.links.opened.items x.used y.used x.ran x.refused.items x.unlisted a.taken wanted.link (new_state wanted.link (Some wanted.server) false) (number s) (count s) refl refl refl (positive x.ran (begun x a wanted others s first))
         (s.told (call.told t) (sym (ap (λ c. c.quits) core) ∙ on)))
 
-    means : (told : Told) → WereTold x.core told → Means y.core (state_of x.core told)
+    means : (told : Beside) → WereTold x.core told → Means y.core (state_of x.core told)
     means told were = rw core (record { same = refl; told = were })
 
     party-of : AgreesWithSockets x a → (k : ℕ) → eqb (x.used + 1) k ≡ true → has_party k x.core ≡ true

@@ -9,7 +9,7 @@ use Rattle.wc_outside.specs.Keyed.{at_key, without}
 use Rattle.wc_board.specs.declared.connection.Connection.{Connection}
 use Rattle.wc_board.specs.declared.connection.Departure.{Departure}
 use Rattle.wc_board.specs.Connections.{connection_link, leaving_on, departure_of, departure_by}
-use Rattle.wc_board.specs.Told.{Told}
+use Rattle.wc_core.specs.State.{Beside}
 use Rattle.wc_servers.specs.Seats.{SeatView, AreApart, AreSeats, seat_link, is_open, is_open_at, open_of, first_leaving, forgotten, leaving_on as server_leaving_on}
 use Rattle.wc_core.specs.CoreView.{CoreView}
 use Rattle.wc_core.specs.LinksSeen.{departure_in, departure_of_seat, departure_or, departure_by as server_departure_by}
@@ -160,7 +160,7 @@ departed-closes core d e distinct seats alone = closes-by (departs core d e)
         ∙ ap (λ cs. record { link = d.link; cause = d.cause } ∷ (cs ++ leaving_closes (without connection_link d.link.0 core.connections))) (sym still)
 
 -- the state that the core means has none who is leaving
-pub forgot-state : (core : CoreView) (d : Departure) → departure_in core ≡ Some d → Distinct (links_of core) → AreSeats core.servers → AreAlone core → (told : Told) → state_of (forgot d.link.0 core) told ≡ state_of core told
+pub forgot-state : (core : CoreView) (d : Departure) → departure_in core ≡ Some d → Distinct (links_of core) → AreSeats core.servers → AreAlone core → (told : Beside) → state_of (forgot d.link.0 core) told ≡ state_of core told
 forgot-state core d e distinct seats alone told = state-by (departs core d e)
   where
     both : (k : ℕ) → clients_of (without connection_link k core.connections) ≡ clients_of core.connections → open_of (without seat_link k core.servers.seats) ≡ open_of core.servers.seats → state_of (forgot k core) told ≡ state_of core told

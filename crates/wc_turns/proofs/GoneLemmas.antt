@@ -6,7 +6,7 @@ use Rattle.std.proofs.lemmas.List.{append-nil, take-append-drop, length-append, 
 use Rattle.wc_outside.specs.Keyed.{at_key, put_at}
 use Rattle.wc_board.specs.declared.connection.Connection.{Connection}
 use Rattle.wc_board.specs.Connections.{connection_link, leaving_in, leaving_on, unsent_in, unsent_on as client_unsent_on, unsent_at, gone_at}
-use Rattle.wc_board.specs.Told.{Told}
+use Rattle.wc_core.specs.State.{Beside}
 use Rattle.wc_servers.specs.Seats.{SeatView, AreSeats, seat_link, leaving_on as server_leaving_on, unsent_in as server_unsent_in, unsent_on as server_unsent_on, unsent_at as server_unsent_at, gone_at as server_gone_at}
 use Rattle.wc_core.specs.CoreView.{CoreView}
 use Rattle.wc_core.specs.LinksSeen.{bytes_or, unsent_in_core, gone_in}
@@ -73,6 +73,10 @@ pub gone-starved : (link count : ℕ) (core : CoreView) (o : Option Connection) 
 gone-starved link count core None = refl
 gone-starved link count core (Some s) = refl
 
+pub gone-verdicts : (link count : ℕ) (core : CoreView) (o : Option Connection) → (gone_in link count core o).verdicts ≡ core.verdicts
+gone-verdicts link count core None = refl
+gone-verdicts link count core (Some s) = refl
+
 pub gone-saved : (link count : ℕ) (core : CoreView) (o : Option Connection) → (gone_in link count core o).saved ≡ core.saved
 gone-saved link count core None = refl
 gone-saved link count core (Some s) = refl
@@ -111,7 +115,7 @@ gone-has link count k core o e =
     ap (λ t. t || is_some (at_key seat_link k (gone_in link count core o).servers.seats)) (same-keys connection_link k (gone_in link count core o).connections core.connections (gone-links link count core o e))
     ∙ ap (λ t. is_some (at_key connection_link k core.connections) || t) (same-keys seat_link k (gone_in link count core o).servers.seats core.servers.seats (gone-seats link count core o e))
 
-pub gone-state : (link count : ℕ) (core : CoreView) (o : Option Connection) → at_key connection_link link core.connections ≡ o → (told : Told) → state_of (gone_in link count core o) told ≡ state_of core told
+pub gone-state : (link count : ℕ) (core : CoreView) (o : Option Connection) → at_key connection_link link core.connections ≡ o → (told : Beside) → state_of (gone_in link count core o) told ≡ state_of core told
 gone-state link count core None e told = ap (λ ss. record (state_of core told) { servers = ss }) (seats-gone-open link count core.servers.seats (at_key seat_link link core.servers.seats) refl)
 gone-state link count core (Some s) e told = ap (λ cs. record (state_of core told) { clients = cs }) (clients-gone link count core.connections (Some s) e)
 

@@ -15,7 +15,7 @@ use Rattle.wc_core.specs.Events.{Event, Fails}
 use Rattle.wc_core.specs.CoreView.{CoreView}
 use Rattle.wc_core.specs.State.{State}
 use Rattle.wc_core.specs.Step.{step, run, link_loss_step, client_link}
-use Rattle.wc_core.specs.Served.{links_of, clients_of, state_of, close_of, or_else, Distinct, Does, LeavesBy, KeepsClients, ChangesServers}
+use Rattle.wc_core.specs.Served.{links_of, clients_of, state_of, close_of, or_else, Distinct, Does, LeavesBy, KeepsClients, ChangesServers, plain_beside}
 use Rattle.wc_core.specs.ServersKept.{LosesServer}
 use Rattle.wc_core.proofs.ConnectionLemmas.{client-missing}
 use Rattle.wc_core.proofs.DidLemmas.{or_else-none, close_of-append, KeepsClients-trans}
@@ -31,6 +31,8 @@ use Rattle.wc_turns.proofs.KeyedLemmas.{none_of, same-keys}
 use Rattle.wc_turns.proofs.RunLemmas.{run-append-acts, ReachesEvents-all, ReachesEvents-over}
 use Rattle.wc_turns.proofs.ServedLemmas.{MayRun-none, MayRun-one, MayRun-trans}
 use Rattle.wc_turns.proofs.SeatLemmas.{loses-keeps}
+use Rattle.wc_core.specs.State.{beside}
+use Rattle.wc_core.proofs.OracleLemmas.{Agrees-before}
 
 -- ---- one loss
 
@@ -38,8 +40,8 @@ use Rattle.wc_turns.proofs.SeatLemmas.{loses-keeps}
 pub MayRun-starved : (a b : CoreView) (events : List Event) → KeepsClients a b → HasStarved a.starved b.starved → MayRun a b events
 MayRun-starved a b events keeps starved = record {
   keeps = keeps;
-  does = λ same below distinct told were. no-starving a.starved b.starved starved same below;
-  stops = λ same below distinct told were. no-starving a.starved b.starved starved same below;
+  does = λ same below distinct told were agrees. no-starving a.starved b.starved starved same below;
+  stops = λ same below distinct told were agrees. no-starving a.starved b.starved starved same below;
 }
 
 pub stays-further : (a b c : Option Cause) → StaysOrStarves a b → StaysOrStarves b c → StaysOrStarves a c
@@ -59,10 +61,10 @@ lost-others link why state (Some client) k n = (let test : eqb link k ≡ false 
 
 -- at the loss of a link every other client stays
 pub lost-stays : (x y : CoreView) (link : ℕ) (why : Cause) → Does x y (λ state. link_loss_step state link why (at_key client_link link state.clients)) → Distinct (links_of x) → (k : ℕ) → k ≢ link → StaysOrStarves (leaving_on k x.connections) (leaving_on k y.connections)
-lost-stays x y link why does distinct k n = by ((does x.world.nicks).causes distinct k)
+lost-stays x y link why does distinct k n = by ((does (plain_beside x)).causes distinct k)
   where
     state : State
-    state = state_of x x.world.nicks
+    state = state_of x (plain_beside x)
 
     by : LeavesBy (leaving_on k x.connections) (close_of k (link_loss_step state link why (at_key client_link link state.clients)).acts) (leaving_on k y.connections) → StaysOrStarves (leaving_on k x.connections) (leaving_on k y.connections)
     by (inl e) = inl (e ∙ ap (or_else (leaving_on k x.connections)) (lost-others link why state (at_key client_link link state.clients) k n) ∙ or_else-none (leaving_on k x.connections))
@@ -71,10 +73,10 @@ lost-stays x y link why does distinct k n = by ((does x.world.nicks).causes dist
 -- what the loss of a link leaves of its own client
 own-left : (x y : CoreView) (link : ℕ) (why : Cause) → Does x y (λ state. link_loss_step state link why (at_key client_link link state.clients)) → Distinct (links_of x) → leaving_on link x.connections ≡ None
     → (leaving_on link y.connections ≡ None) ⊎ ((leaving_on link y.connections ≡ Some why) ⊎ (leaving_on link y.connections ≡ Some NoMemory))
-own-left x y link why does distinct none = by (at_key client_link link (clients_of x.connections)) ((does x.world.nicks).causes distinct link)
+own-left x y link why does distinct none = by (at_key client_link link (clients_of x.connections)) ((does (plain_beside x)).causes distinct link)
   where
     state : State
-    state = state_of x x.world.nicks
+    state = state_of x (plain_beside x)
 
     here : eqb link link ≡ true
     here = grind (arith, nat_tests)
@@ -89,7 +91,7 @@ own-left x y link why does distinct none = by (at_key client_link link (clients_
 pub LosesLink-of : (x y : CoreView) (link : ℕ) (why : Cause) → Does x y (λ state. link_loss_step state link why (at_key client_link link state.clients)) → ChangesServers x y → is_open_at (at_key connection_link link y.connections) ≡ false
     → LosesServer (is_open_at (at_key connection_link link x.connections)) link why x.servers y.servers → LosesLink link why x y
 LosesLink-of x y link why does stays gone server = record {
-  keeps = (does x.world.nicks).keeps;
+  keeps = (does (plain_beside x)).keeps;
   quits = ap (λ (c : CoreView). c.quits) stays;
   gone = gone;
   server = server;
@@ -99,10 +101,10 @@ LosesLink-of x y link why does stays gone server = record {
 
 -- at a loss for want of memory each client does
 pub starved-stays : (x y : CoreView) (link : ℕ) → Does x y (λ state. link_loss_step state link NoMemory (at_key client_link link state.clients)) → Distinct (links_of x) → (k : ℕ) → StaysOrStarves (leaving_on k x.connections) (leaving_on k y.connections)
-starved-stays x y link does distinct k = by (at_key client_link link (clients_of x.connections)) ((does x.world.nicks).causes distinct k)
+starved-stays x y link does distinct k = by (at_key client_link link (clients_of x.connections)) ((does (plain_beside x)).causes distinct k)
   where
     state : State
-    state = state_of x x.world.nicks
+    state = state_of x (plain_beside x)
 
     own-by : (t : Bool) → (before : Option Cause) → leaving_on k y.connections ≡ or_else before (or_else (cond t (Some NoMemory) None) None) → StaysOrStarves before (leaving_on k y.connections)
     own-by true None e = inr e
@@ -117,7 +119,7 @@ starved-stays x y link does distinct k = by (at_key client_link link (clients_of
 -- ---- losses one after another
 
 pub LosesEach-none : (x : CoreView) → LosesEach [] x x
-LosesEach-none x = record { runs = MayRun-none x; quits = refl; wanted = refl; causes = λ distinct k out. inl refl; closes = λ aside same below distinct told were k. refl }
+LosesEach-none x = record { runs = MayRun-none x; quits = refl; wanted = refl; causes = λ distinct k out. inl refl; closes = λ aside same below distinct told were agrees k. refl }
 
 refused-more : (k : ℕ) (links : List LinkId) (link : LinkId) → is_refused k (links ++ link ∷ []) ≡ (is_refused k links || (eqb link.0 k || false))
 refused-more k links link = list_any-append (λ (one : LinkId). eqb one.0 k) links (link ∷ [])
@@ -141,15 +143,16 @@ LosesEach-more x y z links link going h does quits loses = record {
       let other : k ≢ link.0 = λ q. (let test = not-second (is_refused k links) (eqb link.0 k) parts in let n : link.0 ≢ k = grind (arith, nat_tests) in n (sym q)) in
       stays-further (leaving_on k x.connections) (leaving_on k y.connections) (leaving_on k z.connections) (h.causes distinct k (not-first (is_refused k links) (eqb link.0 k || false) parts))
       (lost-stays y z link.0 Failed does (subst Distinct (sym h.runs.keeps.links) distinct) k other);
-  closes = λ aside same below distinct told were k.
+  closes = λ aside same below distinct told were agrees k.
       let first = h.runs.keeps.rises in
-      let second = (does y.world.nicks).keeps.rises in
+      let second = (does (plain_beside y)).keeps.rises in
       let half : y.starved ≡ x.starved = omega arith in
-      let did = h.runs.does half below distinct told were in
-      let rows = (run (state_of x told) (map loss_of links)).state.told in
+      let earlier = Agrees-before told.oracle y.verdicts z.verdicts (does (plain_beside y)).keeps.verdicts agrees in
+      let did = h.runs.does half below distinct told were earlier in
+      let rows = (beside (run (state_of x told) (map loss_of links)).state) in
       let none : at_key connection_link link.0 y.connections ≡ None = none_of _ (same-keys connection_link link.0 y.connections x.connections h.runs.keeps.links ∙ ap is_some (aside link.0 (refused-more link.0 links link ∙ last-one (is_refused link.0 links) link.0))) in
       let one : close_of k ((step (state_of y rows) (Fails link.0)).acts ++ []) ≡ None = close_of-append k (step (state_of y rows) (Fails link.0)).acts [] ∙ or_else-none (close_of k (step (state_of y rows) (Fails link.0)).acts) ∙ lost-none link.0 Failed (state_of y rows) (at_key client_link link.0 (clients_of y.connections)) (client-missing link.0 y.connections none) k in
-      let before = h.closes (λ j e. aside j (refused-more j links link ∙ ap (λ t. t || (eqb link.0 j || false)) e)) half below distinct told were k in
+      let before = h.closes (λ j e. aside j (refused-more j links link ∙ ap (λ t. t || (eqb link.0 j || false)) e)) half below distinct told were earlier k in
       ap (λ es. close_of k (run (state_of x told) es).acts) (map-more links) ∙ ap (close_of k) (run-append-acts (state_of x told) (map loss_of links) (Fails link.0 ∷ []))
       ∙ close_of-append k (run (state_of x told) (map loss_of links)).acts (run (run (state_of x told) (map loss_of links)).state (Fails link.0 ∷ [])).acts
       ∙ ap (λ o. or_else o (close_of k (run (run (state_of x told) (map loss_of links)).state (Fails link.0 ∷ [])).acts)) before
@@ -176,11 +179,11 @@ lost-over x y refused unlisted ran same over misses all = over-by unlisted misse
     over-by : (n : ℕ) → MissesUnlisted n x y → TakesAside refused x y ran ran all
     over-by zero m = record {
       takes = record { events = []; reaches = ReachesEvents-over x.quits y.quits ran all over; takes = subst (λ c. MayRun x c []) (sym (m.none refl)) (MayRun-none x) };
-      closes = λ aside still below distinct told were k. refl;
+      closes = λ aside still below distinct told were agrees k. refl;
     }
     over-by (suc n) m = record {
       takes = record { events = []; reaches = ReachesEvents-over x.quits y.quits ran all over; takes = MayRun-starved x y [] m.keeps (m.starves (omega arith)) };
-      closes = λ aside still below distinct told were k. refl;
+      closes = λ aside still below distinct told were agrees k. refl;
     }
 
 -- they are lost
@@ -193,13 +196,13 @@ lost-all x y z refused unlisted ran ran' going misses loses count all listed siz
         let each : LosesEach refused x z = subst (λ w. LosesEach refused w z) same loses in
         subst (TakesAside refused x z ran ran') (sym (l refl)) (record {
           takes = record { events = map loss_of refused; reaches = ReachesEvents-all x.quits z.quits ran ran' (map loss_of refused) going (λ fits. (let n = map-size refused in omega arith)); takes = each.runs };
-          closes = λ aside still below distinct told were k. each.closes aside still below distinct told were k;
+          closes = λ aside still below distinct told were agrees k. each.closes aside still below distinct told were agrees k;
         })
     all-by (suc n) m c l s =
         let starved : HasStarved x.starved z.starved = starved-later x.starved y.starved z.starved loses.runs.keeps.rises (m.starves (omega arith)) in
         record {
           takes = record { events = all; reaches = ReachesEvents-all x.quits z.quits ran ran' all going (λ fits. omega arith); takes = MayRun-starved x z all (KeepsClients-trans x y z m.keeps loses.runs.keeps) starved };
-          closes = λ aside still below distinct told were k. no-starving x.starved z.starved starved still below;
+          closes = λ aside still below distinct told were agrees k. no-starving x.starved z.starved starved still below;
         }
 
 pub lost-causes : (x y z : CoreView) (refused : List LinkId) (unlisted : ℕ) → MissesUnlisted unlisted x y → LosesEach refused y z → Distinct (links_of x) → (k : ℕ) → is_refused k refused ≡ false → StaysOrStarves (leaving_on k x.connections) (leaving_on k z.connections)

@@ -18,7 +18,7 @@ use Rattle.wc_board.specs.Connections.{connection_link, unsent_in as client_unse
 use Rattle.wc_core.specs.Served.{state_of, WereTold, Means, sent_to, outs_of, Follows}
 use Rattle.wc_servers.specs.Outs.{lines_by, lines_to, wanted_in}
 use Rattle.wc_servers.specs.Seats.{SeatView, AreSeats, AreUsed, links_of as seat_links, seat_link, unsent_in as server_unsent_in, unsent_on as server_unsent_on}
-use Rattle.wc_board.specs.Told.{Told}
+use Rattle.wc_core.specs.State.{Beside}
 use Rattle.wc_outside.specs.Keyed.{at_key}
 use Rattle.wc_turns.specs.declared.links.Closed.{Closed}
 use Rattle.wc_turns.specs.Hands.{Delivers}
@@ -227,7 +227,7 @@ sides-kept a b keep k (inl there) = before (sym (keep.links k) ∙ there) (is_so
     before h false e = inr (next-above a.servers.used k keep.more keep.next (rw e at h))
 
 -- nobody goes, and who comes has a new number
-pub OnOneSide-takes : (told : Told) (a b : CoreView) (events : List Event) → Follows a b (run (state_of a told) events) → map connection_link b.connections ≡ map connection_link a.connections → ServersKeep a.servers b.servers → AreSeats b.servers → AreAlone b
+pub OnOneSide-takes : (told : Beside) (a b : CoreView) (events : List Event) → Follows told a b (run (state_of a told) events) → map connection_link b.connections ≡ map connection_link a.connections → ServersKeep a.servers b.servers → AreSeats b.servers → AreAlone b
     → ((k : ℕ) → a.servers.used < k → at_key connection_link k a.connections ≡ None) → OnOneSide a b (run (state_of a told) events).acts
 OnOneSide-takes told a b events did links keep seats alone above = record { clients = λ k h. client k h; servers = λ k h. server k h }
   where
@@ -260,13 +260,14 @@ OnOneSide-takes told a b events did links keep seats alone above = record { clie
 -- ---- moments
 
 -- a happening is taken, at which clients and servers may begin to leave
-pub MomentAdvances-takes : (told : Told) (a b : Moment) (closed : List Closed) (events : List Event) → Follows a.core b.core (run (state_of a.core told) events) → map connection_link b.core.connections ≡ map connection_link a.core.connections → b.used ≡ a.used
+pub MomentAdvances-takes : (told : Beside) (a b : Moment) (closed : List Closed) (events : List Event) → Follows told a.core b.core (run (state_of a.core told) events) → map connection_link b.core.connections ≡ map connection_link a.core.connections → b.used ≡ a.used
     → ServersKeep a.core.servers b.core.servers → AreSeats b.core.servers → ((k : ℕ) → a.core.servers.used < k → at_key connection_link k a.core.connections ≡ None)
     → ((k : ℕ) → nat_le k a.used ≡ true → has_party k b.core ≡ has_party k a.core) → AreAlone a.core → AreAlone b.core
     → ((k : ℕ) → b.sent k ≡ a.sent k) → ((k : ℕ) → b.choked k ≡ a.choked k) → b.asked ≡ a.asked ++ asks_in (run (state_of a.core told) events).acts → (more : List Happening) → b.taken ≡ a.taken ++ more → closings (run (state_of a.core told) events).acts ≡ closed → EndsAtQuit (state_of a.core told) events
     → MomentAdvances told a b closed events
 MomentAdvances-takes told a b closed events did links used keep seats above parties alone alone' sent choked asked more taken closes stops = record {
   means = did.means;
+  oracle = did.oracle;
   stops = stops;
   sides = OnOneSide-takes told a.core b.core events did links keep seats alone' above;
   hands = λ k.
@@ -308,12 +309,13 @@ fresh_by k came used false e next p p' h =
     rw same (ap (λ x. nat_le k used && not x) (h ∙ or-false p))
 
 -- a client comes, or its link is refused
-pub MomentAdvances-comes : (told : Told) (a b : Moment) (closed : List Closed) (events : List Event) → b.used ≡ a.used + 1 → Means b.core (run (state_of a.core told) events).state → ((k : ℕ) → owed_to k (run (state_of a.core told) events).acts ≡ []) → OnOneSide a.core b.core (run (state_of a.core told) events).acts
+pub MomentAdvances-comes : (told : Beside) (a b : Moment) (closed : List Closed) (events : List Event) → b.used ≡ a.used + 1 → Means b.core (run (state_of a.core told) events).state → (run (state_of a.core told) events).state.oracle ≡ told.oracle → ((k : ℕ) → owed_to k (run (state_of a.core told) events).acts ≡ []) → OnOneSide a.core b.core (run (state_of a.core told) events).acts
     → ((k : ℕ) → unsent_on k b.core ≡ unsent_on k a.core) → ((k : ℕ) → (nat_le k (a.used + 1) && not (has_party k b.core)) ≡ (nat_le k a.used && not (has_party k a.core))) → b.core.quits ≡ a.core.quits → has_end (run (state_of a.core told) events).acts ≡ false
     → ((k : ℕ) → b.sent k ≡ a.sent k) → ((k : ℕ) → b.choked k ≡ a.choked k) → b.asked ≡ a.asked ++ asks_in (run (state_of a.core told) events).acts → (more : List Happening) → b.taken ≡ a.taken ++ more → closings (run (state_of a.core told) events).acts ≡ closed → EndsAtQuit (state_of a.core told) events
     → MomentAdvances told a b closed events
-MomentAdvances-comes told a b closed events used means owed sides bytes gone quits ends sent choked asked more taken closes stops = record {
+MomentAdvances-comes told a b closed events used means oracle owed sides bytes gone quits ends sent choked asked more taken closes stops = record {
   means = means;
+  oracle = oracle;
   sides = sides;
   stops = stops;
   hands = λ k. rw (owed k)
@@ -329,10 +331,11 @@ MomentAdvances-comes told a b closed events used means owed sides bytes gone qui
 }
 
 -- nothing is owed, and what is handed to each link stays the same
-pub MomentAdvances-none : (told : Told) (a b : Moment) → Means b.core (state_of a.core told) → b.core.quits ≡ a.core.quits → ((k : ℕ) → (point k b).gone ≡ (point k a).gone) → ((k : ℕ) → (point k b).spoiled ≡ false → (point k a).spoiled ≡ false)
+pub MomentAdvances-none : (told : Beside) (a b : Moment) → Means b.core (state_of a.core told) → b.core.quits ≡ a.core.quits → ((k : ℕ) → (point k b).gone ≡ (point k a).gone) → ((k : ℕ) → (point k b).spoiled ≡ false → (point k a).spoiled ≡ false)
     → ((k : ℕ) → (point k b).sent ++ (point k b).unsent ≡ (point k a).sent ++ (point k a).unsent) → ((k : ℕ) → (point k a).gone ≡ true → b.sent k ≡ a.sent k) → OnOneSide a.core b.core [] → b.asked ≡ a.asked → MomentAdvances told a b [] []
 MomentAdvances-none told a b means quits gone spoils bytes sent sides asked = record {
   means = means;
+  oracle = refl;
   sides = sides;
   stops = tt;
   hands = λ k. Delivers-stays (point k a) (point k b) [] (gone k) (spoils k) (bytes k ∙ sym (append-nil _)) (sent k) (λ e. refl);
@@ -341,20 +344,21 @@ MomentAdvances-none told a b means quits gone spoils bytes sent sides asked = re
   quits = quits ∙ sym (or-false a.core.quits);
 }
 
-means-stays : (told : Told) (old new : CoreView) (stepped : Stepped) → new ≡ old → stepped ≡ no_step (state_of old told) → WereTold old told → Means new stepped.state
+means-stays : (told : Beside) (old new : CoreView) (stepped : Stepped) → new ≡ old → stepped ≡ no_step (state_of old told) → WereTold old told → Means new stepped.state
 means-stays told old new stepped same none were =
     let P : CoreView → Type 0 = λ core. Means core stepped.state in
     let Q : State → Type 0 = λ state. Means old state in
     subst P (sym same) (subst Q (sym (ap (λ s. s.state) none)) (record { same = refl; told = were }))
 
 -- the core stays
-pub MomentAdvances-same : (told : Told) (a b : Moment) → b.core ≡ a.core → b.used ≡ a.used → ((k : ℕ) → b.sent k ≡ a.sent k) → ((k : ℕ) → b.choked k ≡ a.choked k) → b.asked ≡ a.asked → (more : List Happening) → b.taken ≡ a.taken ++ more
+pub MomentAdvances-same : (told : Beside) (a b : Moment) → b.core ≡ a.core → b.used ≡ a.used → ((k : ℕ) → b.sent k ≡ a.sent k) → ((k : ℕ) → b.choked k ≡ a.choked k) → b.asked ≡ a.asked → (more : List Happening) → b.taken ≡ a.taken ++ more
     → (events : List Event) → run (state_of a.core told) events ≡ no_step (state_of a.core told) → WereTold a.core told → EndsAtQuit (state_of a.core told) events → MomentAdvances told a b [] events
 MomentAdvances-same told a b core used sent choked asked more taken events none were stops =
     let acts : (run (state_of a.core told) events).acts ≡ [] = ap (λ s. s.acts) none in
     let quits : b.core.quits ≡ a.core.quits = ap (λ (c : CoreView). c.quits) core in
     record {
       means = means-stays told a.core b.core (run (state_of a.core told) events) core none were;
+      oracle = ap (λ s. s.state.oracle) none;
       stops = stops;
       hands = λ k. subst (λ done. Delivers (point k a) (point k b) (owed_to k done)) (sym acts)
           (Delivers-stays (point k a) (point k b) [] (rw (used, core) refl) (rw taken (spoils-more k (a.choked k) (b.choked k) a.taken more (λ e. sym (choked k) ∙ e)))

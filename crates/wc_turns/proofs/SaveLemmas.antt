@@ -49,9 +49,10 @@ takes-written x h a b ran ran' closed more c = record {
   events = c.events;
   reaches = c.reaches;
   rises = c.rises;
-  advances = λ same below told were.
-      let m = c.advances same below told were in
-      record { means = record { same = m.means.same; told = m.means.told }; stops = m.stops; hands = m.hands; sides = record { clients = m.sides.clients; servers = m.sides.servers }; asks = m.asks; closes = m.closes; quits = m.quits };
+  verdicts = c.verdicts;
+  advances = λ same below told were agrees.
+      let m = c.advances same below told were agrees in
+      record { means = record { same = m.means.same; told = m.means.told }; oracle = m.oracle; stops = m.stops; hands = m.hands; sides = record { clients = m.sides.clients; servers = m.sides.servers }; asks = m.asks; closes = m.closes; quits = m.quits };
   silent = c.silent;
   last = c.last;
 }

@@ -8,9 +8,9 @@ use Rattle.wc_core.specs.Events.{Event, Line}
 use Rattle.wc_core.specs.CoreView.{CoreView}
 use Rattle.wc_core.specs.State.{State, Act, has_end}
 use Rattle.wc_core.specs.Step.{step, run}
-use Rattle.wc_core.specs.Served.{links_of, state_of, WereTold, Means, sent_to, outs_of, close_of, or_else, Distinct, Follows, FollowsUnlessStarved, Does, LeavesBy}
+use Rattle.wc_core.specs.Served.{links_of, state_of, WereTold, Means, sent_to, outs_of, close_of, or_else, Distinct, Follows, FollowsUnlessStarved, Does, LeavesBy, plain_beside}
 use Rattle.wc_board.specs.Connections.{leaving_in, leaving_on, unsent_on}
-use Rattle.wc_board.specs.Told.{Told}
+use Rattle.wc_core.specs.State.{Beside, beside}
 use Rattle.wc_core.proofs.ComeLemmas.{ServersKeep-refl, ServersKeep-trans}
 use Rattle.wc_core.proofs.DidLemmas.{Follows-stays, Follows-then, KeepsClients-refl, KeepsClients-trans, KeepsSaved-trans}
 use Rattle.wc_turns.specs.Served.{MayRun, LeavesFor, LeavesAtLine}
@@ -19,17 +19,20 @@ use Rattle.wc_servers.specs.Outs.{ServersFollow}
 use Rattle.wc_turns.specs.Run.{EndsAtQuit}
 use Rattle.wc_turns.proofs.RunLemmas.{run-append-state, run-append-acts, EndsAtQuit-one, EndsAtQuit-append}
 use Rattle.wc_turns.proofs.ClosingLemmas.{LineCause, line-cause, line-others}
+use Rattle.wc_eval.specs.Verdicts.{Oracle, Agrees}
+use Rattle.wc_core.proofs.OracleLemmas.{Agrees-before}
 
-pub Follows-acts : (a b : CoreView) (state : State) (acts acts' : List Act) → acts ≡ acts' → Follows a b (record { state = state; acts = acts }) → Follows a b (record { state = state; acts = acts' })
-Follows-acts a b state acts acts' e did = subst (λ xs. Follows a b (record { state = state; acts = xs })) e did
+pub Follows-acts : (told : Beside) (a b : CoreView) (state : State) (acts acts' : List Act) → acts ≡ acts' → Follows told a b (record { state = state; acts = acts }) → Follows told a b (record { state = state; acts = acts' })
+Follows-acts told a b state acts acts' e did = subst (λ xs. Follows told a b (record { state = state; acts = xs })) e did
 
-Follows-append : (told : Told) (a b c : CoreView) (es fs : List Event) → ServersKeep a.servers b.servers → Follows a b (run (state_of a told) es) → Follows b c (run (state_of b (run (state_of a told) es).state.told) fs) → Follows a c (run (state_of a told) (es ++ fs))
+Follows-append : (told : Beside) (a b c : CoreView) (es fs : List Event) → ServersKeep a.servers b.servers → Follows told a b (run (state_of a told) es) → Follows (beside (run (state_of a told) es).state) b c (run (state_of b (beside (run (state_of a told) es).state)) fs) → Follows told a c (run (state_of a told) (es ++ fs))
 Follows-append told a b c es fs keep h g =
-    let did = Follows-then a b c (run (state_of a told) es) (λ next. run next fs) keep h g in
+    let did = Follows-then told a b c (run (state_of a told) es) (λ next. run next fs) keep h g in
     let acts = sym (run-append-acts (state_of a told) es fs) in
     let P : State → Type 0 = λ state. Means c state in
     record {
       means = subst P (sym (run-append-state (state_of a told) es fs)) did.means;
+      oracle = ap (λ (s : State). s.oracle) (run-append-state (state_of a told) es fs) ∙ did.oracle;
       bytes = λ k. did.bytes k ∙ ap (λ xs. unsent_on k a.connections ++ sent_to k xs) acts;
       leaving = λ k. did.leaving k ∙ ap (λ xs. or_else (leaving_on k a.connections) (close_of k xs)) acts;
       quits = did.quits ∙ ap (λ xs. a.quits || has_end xs) acts;
@@ -42,28 +45,28 @@ ends-by true end q = refl
 ends-by false end q = q
 
 pub MayRun-none : (a : CoreView) → MayRun a a []
-MayRun-none a = record { keeps = KeepsClients-refl a; does = λ same below distinct told were. Follows-stays told a were; stops = λ same below distinct told were. tt }
+MayRun-none a = record { keeps = KeepsClients-refl a; does = λ same below distinct told were agrees. Follows-stays told a were; stops = λ same below distinct told were agrees. tt }
 
 pub MayRun-one : (a b : CoreView) (event : Event) → Does a b (λ state. step state event) → MayRun a b (event ∷ [])
 MayRun-one a b event h = record {
-  keeps = (h a.world.nicks).keeps;
-  does = λ same below distinct told were. (let s = step (state_of a told) event in Follows-acts a b s.state s.acts (s.acts ++ []) (sym (append-nil s.acts)) ((h told).does same below distinct were));
-  stops = λ same below distinct told were. EndsAtQuit-one (state_of a told) (event ∷ []) refl;
+  keeps = (h (plain_beside a)).keeps;
+  does = λ same below distinct told were agrees. (let s = step (state_of a told) event in Follows-acts told a b s.state s.acts (s.acts ++ []) (sym (append-nil s.acts)) ((h told).does same below distinct were agrees));
+  stops = λ same below distinct told were agrees. EndsAtQuit-one (state_of a told) (event ∷ []) refl;
 }
 
 -- where `/quit` was run by the first of them, there are none after it
 pub MayRun-then : (a b c : CoreView) (es fs : List Event) → (b.quits ≡ true → fs ≡ []) → MayRun a b es → MayRun b c fs → MayRun a c (es ++ fs)
 MayRun-then a b c es fs over h g = record {
   keeps = KeepsClients-trans a b c h.keeps g.keeps;
-  does = λ same below distinct told were.
-      let before = first same below distinct told were in
-      Follows-append told a b c es fs h.keeps.servers before (g.does (later same) (under same below) (following distinct) (run (state_of a told) es).state.told before.means.told);
-  stops = λ same below distinct told were.
-      let before = first same below distinct told were in
+  does = λ same below distinct told were agrees.
+      let before = first same below distinct told were agrees in
+      Follows-append told a b c es fs h.keeps.servers before (g.does (later same) (under same below) (following distinct) (beside (run (state_of a told) es).state) before.means.told (onward told.oracle (run (state_of a told) es).state.oracle before.oracle agrees));
+  stops = λ same below distinct told were agrees.
+      let before = first same below distinct told were agrees in
       let state = (run (state_of a told) es).state in
       let P : State → Type 0 = λ s. EndsAtQuit s fs in
-      EndsAtQuit-append (state_of a told) es fs (h.stops (half same) below distinct told were) (λ q. over (before.quits ∙ ends-by a.quits (has_end (run (state_of a told) es).acts) q))
-      (subst P (sym before.means.same) (g.stops (later same) (under same below) (following distinct) state.told before.means.told));
+      EndsAtQuit-append (state_of a told) es fs (h.stops (half same) below distinct told were (earlier told agrees)) (λ q. over (before.quits ∙ ends-by a.quits (has_end (run (state_of a told) es).acts) q))
+      (subst P (sym before.means.same) (g.stops (later same) (under same below) (following distinct) (beside state) before.means.told (onward told.oracle state.oracle before.oracle agrees)));
 } where
   half : c.starved ≡ a.starved → b.starved ≡ a.starved
   half same = let p = h.keeps.rises in let q = g.keeps.rises in omega arith
@@ -77,8 +80,14 @@ MayRun-then a b c es fs over h g = record {
   following : Distinct (links_of a) → Distinct (links_of b)
   following distinct = subst Distinct (sym h.keeps.links) distinct
 
-  first : c.starved ≡ a.starved → a.starved < 2 ^ 64 - 1 → Distinct (links_of a) → (told : Told) → WereTold a told → Follows a b (run (state_of a told) es)
-  first same below distinct told were = h.does (half same) below distinct told were
+  earlier : (told : Beside) → Agrees told.oracle c.verdicts → Agrees told.oracle b.verdicts
+  earlier told agrees = Agrees-before told.oracle b.verdicts c.verdicts g.keeps.verdicts agrees
+
+  onward : (o p : Oracle) → p ≡ o → Agrees o c.verdicts → Agrees p c.verdicts
+  onward o p same agrees = subst (λ (q : Oracle). Agrees q c.verdicts) (sym same) agrees
+
+  first : c.starved ≡ a.starved → a.starved < 2 ^ 64 - 1 → Distinct (links_of a) → (told : Beside) → WereTold a told → Agrees told.oracle c.verdicts → Follows told a b (run (state_of a told) es)
+  first same below distinct told were agrees = h.does (half same) below distinct told were (earlier told agrees)
 
 -- where the first of them ran no `/quit`
 pub MayRun-trans : (a b c : CoreView) (es fs : List Event) → b.quits ≡ false → MayRun a b es → MayRun b c fs → MayRun a c (es ++ fs)
@@ -138,7 +147,7 @@ LeavesAtLine-one link a b line done = record {
       (for-closed link other state line (eqb other link) refl);
 } where
   state : State
-  state = state_of a a.world.nicks
+  state = state_of a (plain_beside a)
 
-  h : FollowsUnlessStarved a.world.nicks a b (step state (Line link line))
-  h = done a.world.nicks
+  h : FollowsUnlessStarved (plain_beside a) a b (step state (Line link line))
+  h = done (plain_beside a)

@@ -10,7 +10,7 @@ use Rattle.wc_outside.specs.declared.happening.Happening.TheVariants.{Woke, Acce
 use Rattle.wc_board.specs.declared.connection.Connection.{Connection}
 use Rattle.wc_core.specs.CoreView.{CoreView}
 use Rattle.wc_core.specs.Step.{run, no_step, client_link}
-use Rattle.wc_board.specs.Told.{Told}
+use Rattle.wc_core.specs.State.{Beside}
 use Rattle.wc_board.specs.Connections.{connection_link, leaving_in, leaving_on}
 use Rattle.wc_core.specs.Served.{state_of, clients_of, links_of, or_else, Distinct}
 use Rattle.wc_core.proofs.DidLemmas.{saves-as}
@@ -35,6 +35,7 @@ use Rattle.wc_turns.proofs.CauseLemmas.{Onward-none, reasons-same}
 use Rattle.wc_turns.proofs.ChangedLemmas.{there-as}
 use Rattle.wc_turns.proofs.SeatLemmas.{open-none, shut-leaving}
 use Rattle.wc_turns.proofs.TurnLemmas.{Call, LoopStep-step, LoopStep-still}
+use Rattle.wc_core.proofs.OracleLemmas.{Stay-refl}
 
 -- the sockets stay as they were but for what they gave and sent
 pub record SameSets (a b : Seen) : Type 0 where
@@ -92,16 +93,17 @@ no-arrivals k (h ∷ given) e =
     rw (or-first (comes_on k h) false first) (no-arrivals k given (or-second (gives h) (list_any gives given) e))
 
 missed-by : (x : Headless) (n : ℕ) (a b : Seen) (h : Happening) (q : Bool) → x.core.quits ≡ q → n ≡ reached_after_miss x.core.quits x.ran → b.taken ≡ a.taken ++ h ∷ [] → ((k : ℕ) → b.sent k ≡ a.sent k) → ((k : ℕ) → b.choked k ≡ a.choked k) → b.asked ≡ a.asked
-    → length (events_of a.taken h) ≡ 1 → GivesNothing (h ∷ []) → (x.core.quits ≡ false → (told : Told) → run (state_of x.core told) (events_of a.taken h) ≡ no_step (state_of x.core told)) → CoreTakes (moment x a) (moment (record x { ran = n }) b) x.ran n [] (h ∷ [])
+    → length (events_of a.taken h) ≡ 1 → GivesNothing (h ∷ []) → (x.core.quits ≡ false → (told : Beside) → run (state_of x.core told) (events_of a.taken h) ≡ no_step (state_of x.core told)) → CoreTakes (moment x a) (moment (record x { ran = n }) b) x.ran n [] (h ∷ [])
 missed-by x n a b h true e count taken sent choked asked one gives none =
     let same : n ≡ x.ran = rw e at count in
     record {
       events = [];
       reaches = rw same (ReachesEvents-over x.core.quits x.core.quits x.ran (events_from a.taken (h ∷ [])) e);
       rises = omega arith;
-      advances = λ still below told were. MomentAdvances-same told (moment x a) (moment (record x { ran = n }) b) refl refl sent choked (ap (λ xs. xs ++ asks_of x.core.servers.wanted) asked) (h ∷ []) taken [] refl were tt;
+      verdicts = Stay-refl x.core.verdicts;
+      advances = λ still below told were agrees. MomentAdvances-same told (moment x a) (moment (record x { ran = n }) b) refl refl sent choked (ap (λ xs. xs ++ asks_of x.core.servers.wanted) asked) (h ∷ []) taken [] refl were tt;
       silent = λ over. gives;
-      last = λ still below told were going over. absurd (false≢true (sym going ∙ over));
+      last = λ still below told were agrees going over. absurd (false≢true (sym going ∙ over));
     }
 missed-by x n a b h false e count taken sent choked asked one gives none =
     let more : n ≡ min (x.ran + 1) (2 ^ 64 - 1) = rw e at count in
@@ -109,9 +111,10 @@ missed-by x n a b h false e count taken sent choked asked one gives none =
       events = events_of a.taken h;
       reaches = rw (append-nil (events_of a.taken h)) (ReachesEvents-all x.core.quits x.core.quits x.ran n (events_of a.taken h) e (λ fits. omega arith));
       rises = omega arith;
-      advances = λ still below told were. MomentAdvances-same told (moment x a) (moment (record x { ran = n }) b) refl refl sent choked (ap (λ xs. xs ++ asks_of x.core.servers.wanted) asked) (h ∷ []) taken (events_of a.taken h) (none e told) were (EndsAtQuit-one (state_of x.core told) (events_of a.taken h) one);
+      verdicts = Stay-refl x.core.verdicts;
+      advances = λ still below told were agrees. MomentAdvances-same told (moment x a) (moment (record x { ran = n }) b) refl refl sent choked (ap (λ xs. xs ++ asks_of x.core.servers.wanted) asked) (h ∷ []) taken (events_of a.taken h) (none e told) were (EndsAtQuit-one (state_of x.core told) (events_of a.taken h) one);
       silent = λ over. gives;
-      last = λ still below told were going over. absurd (false≢true (sym going ∙ over));
+      last = λ still below told were agrees going over. absurd (false≢true (sym going ∙ over));
     }
 
 ran-before : (q : Bool) (ran n : ℕ) → n ≡ reached_after_miss q ran → n ≡ 0 → ran ≡ 0
@@ -121,7 +124,7 @@ ran-before false ran n count e = omega arith
 -- an event that changes nothing
 pub LoopStep-missed : (x : Headless) (n : ℕ) (a b : Seen) (h : Happening) → is_wake h ≡ 0 → GivesNothing (h ∷ []) → Call a b (h ∷ []) → (IsTrue b.tells → (k : ℕ) → b.sent k ≡ a.sent k) → (IsTrue b.tells → (k : ℕ) → b.choked k ≡ a.choked k) → (IsTrue b.tells → b.asked ≡ a.asked) → SameSets a b
     → ((k : ℕ) → bytes_on k h ≡ []) → IsTimeless h → KeepsRefused h → IsUnstanding h → ((taken : List Happening) → length (events_of taken h) ≡ 1) → n ≡ reached_after_miss x.core.quits x.ran
-    → (AgreesWithSockets x a → x.core.quits ≡ false → (taken : List Happening) (told : Told) → run (state_of x.core told) (events_of taken h) ≡ no_step (state_of x.core told))
+    → (AgreesWithSockets x a → x.core.quits ≡ false → (taken : List Happening) (told : Beside) → run (state_of x.core told) (events_of taken h) ≡ no_step (state_of x.core told))
     → LoopStep true 0 (is_listen_fault h) x (record x { ran = n }) a b
 LoopStep-missed x n a b h wake gives call sent choked asked same quiet timeless keeps unstanding one count none =
     LoopStep-step true 0 (is_listen_fault h) x (record x { ran = n }) a b (h ∷ []) [] call (λ below. omega arith) (omega arith) (omega arith)
@@ -140,7 +143,7 @@ left-client k connections (Some connection) e d h = client-leaving k connections
     closed-connection (Some cause) q = refl
 
 -- the failure of a link whose client or server is leaving changes nothing
-pub failed-left : (core : CoreView) (link : LinkId) (taken : List Happening) → Distinct (links_of core) → AreSeats core.servers → AreAlone core → IsSome (leaving_of link.0 core) → (told : Told) → run (state_of core told) (events_of taken (Failed link)) ≡ no_step (state_of core told)
+pub failed-left : (core : CoreView) (link : LinkId) (taken : List Happening) → Distinct (links_of core) → AreSeats core.servers → AreAlone core → IsSome (leaving_of link.0 core) → (told : Beside) → run (state_of core told) (events_of taken (Failed link)) ≡ no_step (state_of core told)
 failed-left core link taken d seats alone h told = left-by (server_leaving_on link.0 core.servers.seats) refl h
   where
     no-client : (o : Option Connection) → at_key connection_link link.0 core.connections ≡ o → IsSome (server_leaving_on link.0 core.servers.seats) → o ≡ None
@@ -180,7 +183,7 @@ pub LoopStep-flags : (x y : Headless) (a b : Seen) → OnlyLinks x y → Call a 
     → SameTails x.links.opened.items y.links.opened.items → SameKinds x.links.opened.items y.links.opened.items → LoopStep true 0 0 x y a b
 LoopStep-flags x y a b only call sent choked asked used there listening numbers flags blocked tails kinds =
     let links : (k : ℕ) → is_some (at_key link_number k y.links.opened.items) ≡ is_some (at_key link_number k x.links.opened.items) = λ k. same-keys link_number k y.links.opened.items x.links.opened.items numbers in
-    LoopStep-still x y a b call only.turns (ap (λ c. c.starved) only.core) (ap (λ c. c.quits) only.core) only.ran (λ k h. rw only.core at h) (ap (λ c. c.servers.used) only.core) (ap (λ c. c.servers.wanted) only.core) (saves-as x.core y.core x.core only.core refl refl)
+    LoopStep-still x y a b call only.turns (ap (λ c. c.starved) only.core) (ap (λ c. c.verdicts) only.core) (ap (λ c. c.quits) only.core) only.ran (λ k h. rw only.core at h) (ap (λ c. c.servers.used) only.core) (ap (λ c. c.servers.wanted) only.core) (saves-as x.core y.core x.core only.core refl refl)
     (ap (λ cs. cs ++ closes_asked y.core) only.closed ∙ ap (λ c. x.links.closed.items ++ closes_asked c) only.core)
     (λ s. rw (only.core, only.used, only.listening, only.refused) (record {
       counted = s.counted ∙ sym used;

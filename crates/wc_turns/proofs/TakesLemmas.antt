@@ -12,14 +12,14 @@ use Rattle.wc_outside.specs.declared.happening.Happening.{Happening}
 use Rattle.wc_outside.specs.declared.happening.Happening.TheVariants.{Woke, Accepted, Read, Ended, Failed, Connected, Refused, ListenFailed}
 use Rattle.wc_outside.specs.Keyed.{at_key, put_at, IsKeyPlace}
 use Rattle.wc_board.specs.Connections.{connection_link, leaving_on}
-use Rattle.wc_board.specs.Told.{Told}
+use Rattle.wc_core.specs.State.{Beside}
 use Rattle.wc_servers.specs.Outs.{wanted_in, part_of, or_else as or_other}
 use Rattle.wc_servers.specs.Seats.{SeatView, AreSeats, seat_link, server_link, is_open_at as server_is_open_at, leaving_in as server_leaving_in, leaving_on as server_leaving_on}
 use Rattle.wc_core.specs.Events.{Event, Arrives, Stands}
 use Rattle.wc_core.specs.CoreView.{CoreView}
 use Rattle.wc_core.specs.State.{State, Act, has_end}
 use Rattle.wc_core.specs.Step.{run, step}
-use Rattle.wc_core.specs.Served.{links_of, state_of, outs_of, close_of, or_else, Distinct, Does, Follows, KeepsSaved}
+use Rattle.wc_core.specs.Served.{links_of, state_of, outs_of, close_of, or_else, Distinct, Does, Follows, KeepsSaved, plain_beside}
 use Rattle.wc_core.specs.ServersKept.{AreInOrder, parts_in, ServersKeep}
 use Rattle.wc_core.proofs.ConnectionLemmas.{client-missing}
 use Rattle.wc_board.specs.Served.{StaysOrStarves}
@@ -117,8 +117,8 @@ TakesHappening-lost x y h event going quiet timeless keeps unstanding events tur
   undrained = λ k. rw links refl;
   blocked = λ k. rw links refl;
   there = λ k. rw links refl;
-  clients = (does x.core.world.nicks).keeps.links;
-  servers = (does x.core.world.nicks).keeps.servers;
+  clients = (does (plain_beside x.core)).keeps.links;
+  servers = (does (plain_beside x.core)).keeps.servers;
   idle = λ none. absurd (omega arith);
   told = λ taken unknown on s. rw (links, clock, used, refused, unlisted) (For-quiet x.clock x.links.opened.items x.used x.ran y.ran x.refused.items x.unlisted taken h quiet timeless keeps unstanding (let e = ap length (events taken) in omega arith) (let e = ap length (events taken) in omega arith) s);
   takes = λ taken s. rw (events taken) (record { events = event ∷ []; reaches = ReachesEvents-all x.core.quits y.core.quits x.ran y.ran (event ∷ []) going (λ fits. omega arith); takes = MayRun-one x.core y.core event does });
@@ -137,8 +137,8 @@ TakesHappening-stands x y link going connecting turns used listening refused unl
   undrained = λ k. rw opened (flag-stands is_undrained (λ state. refl) k);
   blocked = λ k. rw opened (flag-stands is_blocked (λ state. refl) k);
   there = λ k. rw opened (flag-stands is_there (λ state. refl) k);
-  clients = (does x.core.world.nicks).keeps.links;
-  servers = (does x.core.world.nicks).keeps.servers;
+  clients = (does (plain_beside x.core)).keeps.links;
+  servers = (does (plain_beside x.core)).keeps.servers;
   idle = λ none. absurd (omega arith);
   told = λ taken unknown on s. rw (opened, clock, used, refused, unlisted) (For-stands x.clock states x.used x.ran y.ran x.refused.items x.unlisted taken link (within unknown (nat_le link.0 x.used) refl) ran s);
   takes = λ taken s. record { events = Stands link.0 ∷ []; reaches = ReachesEvents-all x.core.quits y.core.quits x.ran y.ran (Stands link.0 ∷ []) going (λ fits. omega arith); takes = MayRun-one x.core y.core (Stands link.0) does };
@@ -185,8 +185,8 @@ later-cause None b e = e
 later-cause (Some cause) b e = absurd (let q : Some cause ≡ None = e in cc)
 
 -- from no one that is leaving, events of one link close who is leaving after them, in order
-closes-taken : (link : LinkId) (told : Told) (a b : CoreView) (events : List Event) → IsCalm a → map connection_link b.connections ≡ map connection_link a.connections → Distinct (links_of a) → AreAlone b → AreSeats b.servers → a.servers.used ≤ 2 ^ 62 → AreInOrder a.servers
-    → All (IsOf link.0) events → Follows a b (run (state_of a told) events) → closings (run (state_of a told) events).acts ≡ closes_asked b
+closes-taken : (link : LinkId) (told : Beside) (a b : CoreView) (events : List Event) → IsCalm a → map connection_link b.connections ≡ map connection_link a.connections → Distinct (links_of a) → AreAlone b → AreSeats b.servers → a.servers.used ≤ 2 ^ 62 → AreInOrder a.servers
+    → All (IsOf link.0) events → Follows told a b (run (state_of a told) events) → closings (run (state_of a told) events).acts ≡ closes_asked b
 closes-taken link told a b events calm links distinct alone seats few order all did =
     let one = run-one link.0 (state_of a told) events all (apart (is_some (at_key connection_link link.0 a.connections)) refl) in
     one.one ∙ ap (λ cs. cs ++ closed_by link (close_of link.0 acts)) servers ∙ ap (λ cs. seat_closes b.servers.seats ++ cs) (clients one.others)
@@ -245,16 +245,17 @@ LoopStep-takes x y link a b h wake call sent choked asked same calm going takes 
       events = m.events;
       reaches = rw (append-nil (events_of a.taken h)) m.reaches;
       rises = m.takes.keeps.rises;
-      advances = λ fed below rows were.
-          let did = m.takes.does fed below s.among.once rows were in
+      verdicts = m.takes.keeps.verdicts;
+      advances = λ fed below rows were agrees.
+          let did = m.takes.does fed below s.among.once rows were agrees in
           let acts = (run (state_of x.core rows) m.events).acts in
           MomentAdvances-takes rows (moment x a) (moment y b) (closes_asked y.core) m.events did takes.clients takes.used takes.servers later.seats (clients-above x.links.opened.items x.core x.used x.listening x.refused.items a s.among)
           (λ k used. party-used k x.links.opened.items y.links.opened.items x.core y.core x.used x.listening x.refused.items a used takes.clients takes.servers s.among) s.among.alone later.alone (sent t) (choked t)
           (rw (asked t, did.servers.wanted) (ap (λ xs. a.asked ++ xs) (asks_of-append x.core.servers.wanted (wanted_in (outs_of acts))) ∙ sym (append_assoc a.asked (asks_of x.core.servers.wanted) (asks_in acts))))
-          (h ∷ []) (call.taken t) (closes-taken link rows x.core y.core m.events calm takes.clients s.among.once later.alone later.seats s.among.limited s.among.order one did) (m.takes.stops fed below s.among.once rows were);
+          (h ∷ []) (call.taken t) (closes-taken link rows x.core y.core m.events calm takes.clients s.among.once later.alone later.seats s.among.limited s.among.order one did) (m.takes.stops fed below s.among.once rows were agrees);
       silent = λ over. absurd (false≢true (sym going ∙ over));
-      last = λ fed below rows were on over.
-          let did = m.takes.does fed below s.among.once rows were in
+      last = λ fed below rows were agrees on over.
+          let did = m.takes.does fed below s.among.once rows were agrees in
           record {
             front = [];
             happening = h;

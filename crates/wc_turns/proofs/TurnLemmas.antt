@@ -13,7 +13,7 @@ use Rattle.wc_core.specs.Step.{run}
 use Rattle.wc_core.specs.Served.{state_of, WereTold, Means, KeepsSaved}
 use Rattle.wc_text.specs.declared.names.Address.{Address}
 use Rattle.wc_outside.specs.declared.happening.Asked.TheVariants.{Connect}
-use Rattle.wc_board.specs.Told.{Told}
+use Rattle.wc_core.specs.State.{Beside, beside}
 use Rattle.wc_core.proofs.DidLemmas.{has_end-append, KeepsSaved-trans}
 use Rattle.wc_turns.specs.declared.links.Closed.{Closed}
 use Rattle.wc_turns.specs.declared.headless.Headless.{Headless}
@@ -26,6 +26,8 @@ use Rattle.wc_turns.proofs.RunLemmas.{run-append-state, run-append-acts, closing
 use Rattle.wc_turns.proofs.HandsLemmas.{Delivers-trans}
 use Rattle.wc_turns.proofs.PointLemmas.{owed_to-append, asks_in-append, OnOneSide-trans}
 use Rattle.wc_turns.proofs.CauseLemmas.{KeepsSides, Onward, Onward-none, Onward-trans, reasons-trans, reasons-as, reasons-same, turn-reasons}
+use Rattle.wc_eval.specs.Verdicts.{Oracle, Agrees}
+use Rattle.wc_core.proofs.OracleLemmas.{Agrees-before, Stay-trans, verdicts-same}
 
 pub NeverFall-refl : (a : Faults) → NeverFall a a
 NeverFall-refl a = record { waits = omega arith; listens = omega arith; connects = omega arith; links = omega arith }
@@ -46,17 +48,18 @@ or-end : (b c : Bool) → c ≡ true → (b || c) ≡ true
 or-end true c e = refl
 or-end false c e = e
 
-MomentAdvances-trans : (told : Told) (a b c : Moment) (closed closed' : List Closed) (es fs : List Event) → (b.core.quits ≡ true → fs ≡ []) → (h : MomentAdvances told a b closed es) → MomentAdvances (run (state_of a.core told) es).state.told b c closed' fs → MomentAdvances told a c (closed ++ closed') (es ++ fs)
+MomentAdvances-trans : (told : Beside) (a b c : Moment) (closed closed' : List Closed) (es fs : List Event) → (b.core.quits ≡ true → fs ≡ []) → (h : MomentAdvances told a b closed es) → MomentAdvances (beside (run (state_of a.core told) es).state) b c closed' fs → MomentAdvances told a c (closed ++ closed') (es ++ fs)
 MomentAdvances-trans told a b c closed closed' es fs over h g =
     let first = (run (state_of a.core told) es).acts in
     let middle = (run (state_of a.core told) es).state in
-    let later = state_of b.core middle.told in
+    let later = state_of b.core (beside middle) in
     let second = (run middle fs).acts in
     let acts = run-append-acts (state_of a.core told) es fs in
     let same : (run later fs).acts ≡ second = ap (λ s. (run s fs).acts) (sym h.means.same) in
     let P : State → Type 0 = λ state. Means c.core state in
     record {
       means = subst P (ap (λ s. (run s fs).state) (sym h.means.same) ∙ sym (run-append-state (state_of a.core told) es fs)) g.means;
+      oracle = ap (λ (s : State). s.oracle) (run-append-state (state_of a.core told) es fs) ∙ ap (λ s. (run s fs).state.oracle) h.means.same ∙ g.oracle ∙ h.oracle;
       stops = EndsAtQuit-append (state_of a.core told) es fs h.stops (λ q. over (h.quits ∙ or-end a.core.quits (has_end first) q)) (subst (λ s. EndsAtQuit s fs) (sym h.means.same) g.stops);
       hands = λ k. rw (acts, owed_to-append k first second) (Delivers-trans (point k a) (point k b) (point k c) (owed_to k first) (owed_to k second) (h.hands k) (rw same at (g.hands k)));
       sides = rw acts (OnOneSide-trans a.core b.core c.core first second h.sides (rw same at g.sides));
@@ -105,22 +108,29 @@ CoreTakes-trans a b c n m o closed closed' more more' grows first second h g = r
       (ReachesEvents-trans a.core.quits b.core.quits c.core.quits n m o (events_from a.taken more) (events_from (a.taken ++ more) more') h.events g.events first second h.reaches
       (subst (λ taken. ReachesEvents b.core.quits c.core.quits m o (events_from taken more') g.events) grows g.reaches));
   rises = (let p = h.rises in let q = g.rises in omega arith);
-  advances = λ same below told were.
+  verdicts = Stay-trans a.core.verdicts b.core.verdicts c.core.verdicts h.verdicts g.verdicts;
+  advances = λ same below told were agrees.
       let p = h.rises in
       let q = g.rises in
-      let before = h.advances (omega arith) below told were in
-      MomentAdvances-trans told a b c closed closed' h.events g.events g.reaches.nothing before (g.advances (omega arith) (omega arith) (run (state_of a.core told) h.events).state.told before.means.told);
+      let before = h.advances (omega arith) below told were (earlier told agrees) in
+      MomentAdvances-trans told a b c closed closed' h.events g.events g.reaches.nothing before (g.advances (omega arith) (omega arith) (beside (run (state_of a.core told) h.events).state) before.means.told (onward told.oracle (run (state_of a.core told) h.events).state.oracle before.oracle agrees));
   silent = λ over. gives-nothing more more' (h.silent over) (g.silent (first over));
-  last = λ same below told were going over.
+  last = λ same below told were agrees going over.
       let p = h.rises in
       let q = g.rises in
       let half : b.core.starved ≡ a.core.starved = omega arith in
       let rest : c.core.starved ≡ b.core.starved = omega arith in
-      let before = h.advances half below told were in
+      let before = h.advances half below told were (earlier told agrees) in
       quits-by b.core.quits refl going
-      (λ quit. QuitsWithin-then a.taken more more' h.events g.events (h.last half below told were going quit) (g.silent quit))
-      (λ on. QuitsWithin-later a.taken b.taken more more' h.events h.reaches.rest g.events grows h.reaches.front (h.reaches.whole on) (g.last rest (omega arith) (run (state_of a.core told) h.events).state.told before.means.told on over));
+      (λ quit. QuitsWithin-then a.taken more more' h.events g.events (h.last half below told were (earlier told agrees) going quit) (g.silent quit))
+      (λ on. QuitsWithin-later a.taken b.taken more more' h.events h.reaches.rest g.events grows h.reaches.front (h.reaches.whole on) (g.last rest (omega arith) (beside (run (state_of a.core told) h.events).state) before.means.told (onward told.oracle (run (state_of a.core told) h.events).state.oracle before.oracle agrees) on over));
 } where
+  earlier : (told : Beside) → Agrees told.oracle c.core.verdicts → Agrees told.oracle b.core.verdicts
+  earlier told agrees = Agrees-before told.oracle b.core.verdicts c.core.verdicts g.verdicts agrees
+
+  onward : (o p : Oracle) → p ≡ o → Agrees o c.core.verdicts → Agrees p c.core.verdicts
+  onward o p same agrees = subst (λ (q : Oracle). Agrees q c.core.verdicts) (sym same) agrees
+
   quits-by : (t : Bool) → b.core.quits ≡ t → a.core.quits ≡ false → (b.core.quits ≡ true → QuitsWithin a.taken (more ++ more') (h.events ++ g.events)) → (b.core.quits ≡ false → QuitsWithin a.taken (more ++ more') (h.events ++ g.events)) → QuitsWithin a.taken (more ++ more') (h.events ++ g.events)
   quits-by true e going p q = p e
   quits-by false e going p q = q e
@@ -281,18 +291,18 @@ unfolding LoopStep-sum LoopStep-wider LoopStep-as
 LoopStep-joined x y z a b c h q = (LoopStep-sum (omega arith) (omega arith) x y z a b c h (LoopStep-wider y z b c q), refl)
 
 -- nothing is taken, and the loop changes nothing that its clients or the happenings see
-pub LoopStep-still : (x y : Headless) (a b : Seen) → Call a b [] → y.turns ≡ x.turns → y.core.starved ≡ x.core.starved → y.core.quits ≡ x.core.quits → y.ran ≡ x.ran → KeepsSides x.core y.core → y.core.servers.used ≡ x.core.servers.used → y.core.servers.wanted ≡ x.core.servers.wanted → KeepsSaved x.core y.core
+pub LoopStep-still : (x y : Headless) (a b : Seen) → Call a b [] → y.turns ≡ x.turns → y.core.starved ≡ x.core.starved → y.core.verdicts ≡ x.core.verdicts → y.core.quits ≡ x.core.quits → y.ran ≡ x.ran → KeepsSides x.core y.core → y.core.servers.used ≡ x.core.servers.used → y.core.servers.wanted ≡ x.core.servers.wanted → KeepsSaved x.core y.core
     → closed_so_far y ≡ closed_so_far x
     → (AgreesOnLinks x.links.opened.items x.core x.used x.listening x.refused.items a → AgreesOnLinks y.links.opened.items y.core y.used y.listening y.refused.items b)
     → (IsTrue b.tells → AgreesWithHappenings x.clock x.links.opened.items x.used x.ran x.refused.items x.unlisted a.taken → AgreesWithHappenings y.clock y.links.opened.items y.used y.ran y.refused.items y.unlisted a.taken)
-    → (IsTrue b.tells → AgreesWithSockets x a → (told : Told) → WereTold x.core told → MomentAdvances told (moment x a) (moment y b) [] [])
+    → (IsTrue b.tells → AgreesWithSockets x a → (told : Beside) → WereTold x.core told → MomentAdvances told (moment x a) (moment y b) [] [])
     → LoopStep true 0 0 x y a b
-LoopStep-still x y a b call turns starved quits ran sides used wanted saves closed among told advances =
+LoopStep-still x y a b call turns starved judged quits ran sides used wanted saves closed among told advances =
     LoopStep-step true 0 0 x y a b [] [] call (λ below. omega arith) refl refl
     (omega arith) (λ t s same below. closed ∙ sym (append-nil _)) (λ s. reasons-same x y a b closed) (λ s. sides) (λ s. Onward-none x.core y.core [] (omega arith) (λ k. refl)) (λ over. quits ∙ over) (λ t s. saves) among
     (λ t s on. rw (append-nil a.taken) (told t (s.told (call.told t) (sym quits ∙ on))))
     (λ s none. wanted ∙ s.idle (sym ran ∙ none))
-    (λ t s. record { events = []; reaches = rw ran (ReachesEvents-none x.core.quits y.core.quits x.ran); rises = omega arith; advances = λ same below. advances t s; silent = λ over. refl; last = λ same below told were going over. absurd (false≢true (sym going ∙ sym quits ∙ over)) })
+    (λ t s. record { events = []; reaches = rw ran (ReachesEvents-none x.core.quits y.core.quits x.ran); rises = omega arith; verdicts = verdicts-same x.core.verdicts y.core.verdicts judged; advances = λ same below told were agrees. advances t s told were; silent = λ over. refl; last = λ same below told were agrees going over. absurd (false≢true (sym going ∙ sym quits ∙ over)) })
 
 pub Rose-following : {A : Type 0} (r : Result A Fault) (p q n : ℕ) → p ≤ q → OnErr r (Rose q n) → OnErr r (Rose p n)
 Rose-following (Ok v) p q n below h = tt
@@ -328,7 +338,7 @@ exactly-by x z w a b c s calm calm' h lists q true t' =
       taken = λ t. q.taken t ∙ ap (λ ts. ts ++ q.gained) (h.taken (q.told t)) ∙ append_assoc a.taken h.gained q.gained;
       events = done.events;
       reaches = λ t. done.reaches;
-      closed = λ t same below told were. turn-closes x z w a b c s calm calm' h lists q same below ∙ sym (done.advances same below told were).closes;
+      closed = λ t same below told were agrees. turn-closes x z w a b c s calm calm' h lists q same below ∙ sym (done.advances same below told were agrees).closes;
     }
 exactly-by x z w a b c s calm calm' h lists q false t' = record {
   gained = h.gained ++ q.gained;

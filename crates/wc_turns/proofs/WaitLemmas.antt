@@ -30,6 +30,7 @@ use Rattle.wc_turns.proofs.SourceLemmas.{TakesNothing-call}
 use Rattle.wc_turns.proofs.StepLemmas.{SameSets, among-same}
 use Rattle.wc_turns.proofs.CauseLemmas.{Onward-none}
 use Rattle.wc_turns.proofs.TurnLemmas.{Call, LoopStep-step}
+use Rattle.wc_core.proofs.OracleLemmas.{verdicts-same}
 
 -- ---- nothing is taken
 
@@ -63,9 +64,10 @@ LoopStep-unwoken x y a b core clock used listening refused unlisted turns ran op
       events = [];
       reaches = rw ran (ReachesEvents-none x.core.quits y.core.quits x.ran);
       rises = (let q = ap (λ (c : CoreView). c.starved) core in omega arith);
-      advances = λ fed below told' were. MomentAdvances-same told' (moment x a) (moment y b) core used (sent t) (choked t) (ap (λ xs. xs ++ asks_of y.core.servers.wanted) (asked t) ∙ ap (λ (c : CoreView). a.asked ++ asks_of c.servers.wanted) core) [] (call.taken t) [] refl were tt;
+      verdicts = verdicts-same x.core.verdicts y.core.verdicts (ap (λ (c : CoreView). c.verdicts) core);
+      advances = λ fed below told' were agrees. MomentAdvances-same told' (moment x a) (moment y b) core used (sent t) (choked t) (ap (λ xs. xs ++ asks_of y.core.servers.wanted) (asked t) ∙ ap (λ (c : CoreView). a.asked ++ asks_of c.servers.wanted) core) [] (call.taken t) [] refl were tt;
       silent = λ over. refl;
-      last = λ fed below told' were going over. absurd (false≢true (sym going ∙ sym (ap (λ (c : CoreView). c.quits) core) ∙ over));
+      last = λ fed below told' were agrees going over. absurd (false≢true (sym going ∙ sym (ap (λ (c : CoreView). c.quits) core) ∙ over));
     })
 
 closes-by : (x y : Headless) (a b : Seen) → AgreesWithSockets x a → WakesCore 0 x y a b → (t : Bool) → b.tells ≡ t → ClosesExactly x y a b
@@ -76,7 +78,7 @@ closes-by x y a b s w true told =
       taken = w.continues.taken;
       events = goes.events;
       reaches = λ t. goes.reaches;
-      closed = λ t fed below told' were. w.closed fed below ∙ sym (goes.advances fed below told' were).closes;
+      closed = λ t fed below told' were agrees. w.closed fed below ∙ sym (goes.advances fed below told' were agrees).closes;
     }
 closes-by x y a b s w false told = record {
   gained = w.continues.gained;

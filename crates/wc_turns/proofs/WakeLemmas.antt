@@ -21,7 +21,7 @@ use Rattle.wc_core.specs.State.{State, Act, Stepped}
 use Rattle.wc_core.specs.Step.{step, run, push_step, start_step}
 use Rattle.wc_board.specs.Connections.{connection_link, leaving_on, leaving_in}
 use Rattle.wc_board.specs.Served.{StaysOrStarves}
-use Rattle.wc_core.specs.Served.{links_of, state_of, close_of, or_else, Distinct, Follows, LeavesBy, Does, KeepsSaved, WereTold, KeepsClients, outs_of}
+use Rattle.wc_core.specs.Served.{links_of, state_of, close_of, or_else, Distinct, Follows, LeavesBy, Does, KeepsSaved, WereTold, KeepsClients, outs_of, plain_beside}
 use Rattle.wc_core.proofs.CloseLemmas.{pushes-closes, starts-closes}
 use Rattle.wc_core.proofs.ServerCloses.{stands-closes}
 use Rattle.wc_servers.specs.Seats.{server_link}
@@ -48,7 +48,7 @@ use Rattle.wc_turns.proofs.ChangedLemmas.{keeps-reported, numbers-changed, SameT
 use Rattle.wc_turns.proofs.CloseLemmas.{there-some}
 use Rattle.wc_turns.proofs.ForgetLemmas.{and-not-false}
 use Rattle.wc_turns.proofs.TurnLemmas.{Call, LoopStep-step, onward-of}
-use Rattle.wc_board.specs.Told.{Told}
+use Rattle.wc_core.specs.State.{Beside, beside}
 use Rattle.wc_core.specs.ServersKept.{is_wanted, AreInOrder, parts_in}
 use Rattle.wc_servers.specs.Outs.{wanted_in}
 use Rattle.wc_turns.specs.Parties.{is_refused, asks_of, asks_in, seat_closes, closes_asked, IsCalm}
@@ -60,6 +60,8 @@ use Rattle.wc_turns.proofs.CauseLemmas.{turn-reasons, Onward-none}
 use Rattle.wc_text.specs.declared.names.LinkId.{LinkId}
 use Rattle.wc_board.specs.declared.connection.Connection.{Connection}
 use Rattle.wc_turns.specs.declared.links.LinkState.{LinkState}
+use Rattle.wc_eval.specs.Verdicts.{Oracle, Agrees}
+use Rattle.wc_core.proofs.OracleLemmas.{Agrees-before}
 
 pub ReportsSources-none : (x : Headless) → ReportsSources x x []
 ReportsSources-none x = record {
@@ -201,9 +203,9 @@ MayRun-still core last moment e = rw e (MayRun-none core)
 
 -- at a step that closes none a client leaves for want of memory alone
 starves-alone : (old new : CoreView) (step : State → Stepped) (k : ℕ) → ((state : State) → close_of k (step state).acts ≡ None) → Does old new step → Distinct (links_of old) → StaysOrStarves (leaving_on k old.connections) (leaving_on k new.connections)
-starves-alone old new step k none does distinct = by ((does old.world.nicks).causes distinct k) where
-  by : LeavesBy (leaving_on k old.connections) (close_of k (step (state_of old old.world.nicks)).acts) (leaving_on k new.connections) → StaysOrStarves (leaving_on k old.connections) (leaving_on k new.connections)
-  by (inl e) = inl (e ∙ ap (or_else (leaving_on k old.connections)) (none (state_of old old.world.nicks)) ∙ or_else-none (leaving_on k old.connections))
+starves-alone old new step k none does distinct = by ((does (plain_beside old)).causes distinct k) where
+  by : LeavesBy (leaving_on k old.connections) (close_of k (step (state_of old (plain_beside old))).acts) (leaving_on k new.connections) → StaysOrStarves (leaving_on k old.connections) (leaving_on k new.connections)
+  by (inl e) = inl (e ∙ ap (or_else (leaving_on k old.connections)) (none (state_of old (plain_beside old))) ∙ or_else-none (leaving_on k old.connections))
   by (inr starves) = starves
 
 -- a connection that stands closes no client
@@ -260,13 +262,13 @@ aside-after x c y refused unlisted ran mid ran' moment last going woke count kee
             reaches = ReachesEvents-trans x.quits c.quits y.quits ran mid ran' wake (map loss_of refused) wake t.takes.events (λ over. absurd (false≢true (sym going ∙ over))) on (first wake refl) t.takes.reaches;
             takes = MayRun-then x c y wake t.takes.events t.takes.reaches.nothing woke t.takes.takes;
           };
-          closes = λ aside still below distinct told were k.
+          closes = λ aside still below distinct told were agrees k.
               let rises = woke.keeps.rises in
               let later = keeps.rises in
               let half : c.starved ≡ x.starved = omega arith in
-              let did = woke.does half below distinct told were in
-              let rows = (run (state_of x told) wake).state.told in
-              let one = t.closes (λ j e. none_of _ (same-keys connection_link j c.connections x.connections woke.keeps.links ∙ ap is_some (aside j e))) (let f = still in omega arith) (let f = below in omega arith) (subst Distinct (sym woke.keeps.links) distinct) rows did.means.told k in
+              let did = woke.does half below distinct told were (Agrees-before told.oracle c.verdicts y.verdicts keeps.verdicts agrees) in
+              let rows = (beside (run (state_of x told) wake).state) in
+              let one = t.closes (λ j e. none_of _ (same-keys connection_link j c.connections x.connections woke.keeps.links ∙ ap is_some (aside j e))) (let f = still in omega arith) (let f = below in omega arith) (subst Distinct (sym woke.keeps.links) distinct) rows did.means.told (subst (λ (o : Oracle). Agrees o y.verdicts) (sym did.oracle) agrees) k in
               ap (close_of k) (run-append-acts (state_of x told) wake t.takes.events) ∙ close_of-append k (run (state_of x told) wake).acts (run (run (state_of x told) wake).state t.takes.events).acts
               ∙ ap (λ o. or_else o (close_of k (run (run (state_of x told) wake).state t.takes.events).acts)) (wake-leaves k last moment (state_of x told)) ∙ ap (λ s. close_of k (run s t.takes.events).acts) did.means.same ∙ one;
         })
@@ -283,7 +285,7 @@ aside-after x c y refused unlisted ran mid ran' moment last going woke count kee
             reaches = ReachesEvents-trans x.quits c.quits y.quits ran mid ran' start rest start t.takes.events (λ over. absurd (false≢true (sym going ∙ over))) on (first start fore) t.takes.reaches;
             takes = MayRun-starved x y (start ++ t.takes.events) (KeepsClients-trans x c y woke.keeps keeps) starved;
           };
-          closes = λ aside still below distinct told were k. no-starving x.starved y.starved starved still below;
+          closes = λ aside still below distinct told were agrees k. no-starving x.starved y.starved starved still below;
         })
 
 -- ---- a turn begins
@@ -310,14 +312,14 @@ begin-takes x y z last moment refused unlisted ran ran' ran'' going runs count k
         let m = losses' (map loss_of refused) (λ q. refl) (let n = map-size refused in omega arith) in
         subst (TakesAside refused x z ran ran'') (sym (listed refl)) (record {
           takes = record { events = wake ++ m.takes.events; reaches = reaches wake (map loss_of refused) m.takes.events count m.takes.reaches; takes = MayRun-then x y z wake m.takes.events m.takes.reaches.nothing runs m.takes.takes };
-          closes = λ aside same below distinct told were k.
+          closes = λ aside same below distinct told were agrees k.
               let first = runs.keeps.rises in
               let second = keeps.rises in
               let half : y.starved ≡ x.starved = omega arith in
-              let did = runs.does half below distinct told were in
-              let rows = (run (state_of x told) wake).state.told in
+              let did = runs.does half below distinct told were (Agrees-before told.oracle y.verdicts z.verdicts keeps.verdicts agrees) in
+              let rows = (beside (run (state_of x told) wake).state) in
               let aside' : (link : ℕ) → is_refused link refused ≡ true → at_key connection_link link y.connections ≡ None = λ link e. none_of _ (same-keys connection_link link y.connections x.connections runs.keeps.links ∙ ap is_some (aside link e)) in
-              let later = m.closes aside' (omega arith) (omega arith) (subst Distinct (sym runs.keeps.links) distinct) rows did.means.told k in
+              let later = m.closes aside' (omega arith) (omega arith) (subst Distinct (sym runs.keeps.links) distinct) rows did.means.told (subst (λ (o : Oracle). Agrees o z.verdicts) (sym did.oracle) agrees) k in
               ap (close_of k) (run-append-acts (state_of x told) wake m.takes.events) ∙ close_of-append k (run (state_of x told) wake).acts (run (run (state_of x told) wake).state m.takes.events).acts
               ∙ ap (λ o. or_else o (close_of k (run (run (state_of x told) wake).state m.takes.events).acts)) (wake-leaves k last moment (state_of x told))
               ∙ ap (λ s. close_of k (run s m.takes.events).acts) did.means.same ∙ later;
@@ -331,7 +333,7 @@ begin-takes x y z last moment refused unlisted ran ran' ran'' going runs count k
         let starved : HasStarved x.starved z.starved = starved-following x.starved y.starved z.starved runs.keeps.rises (starves' (omega arith)) in
         subst (TakesAside refused x z ran ran'') (take-append-drop (length wake) all) (record {
           takes = record { events = front ++ m.takes.events; reaches = reaches front more m.takes.events (omega arith) m.takes.reaches; takes = MayRun-starved x z (front ++ m.takes.events) (KeepsClients-trans x y z runs.keeps keeps) starved };
-          closes = λ aside same below distinct told were k. no-starving x.starved z.starved starved same below;
+          closes = λ aside same below distinct told were agrees k. no-starving x.starved z.starved starved same below;
         })
 
 pub begin-causes : (x y z : CoreView) (refused : List LinkId) → WakesParties x y → links_of y ≡ links_of x → (Distinct (links_of y) → (k : ℕ) → is_refused k refused ≡ false → StaysOrStarves (leaving_on k y.connections) (leaving_on k z.connections)) → Distinct (links_of x) → (k : ℕ) → is_refused k refused ≡ false → StaysOrStarves (leaving_on k x.connections) (leaving_on k z.connections)
@@ -376,7 +378,7 @@ among-woke x z y a b m tokens used there undrained listening blocked tokens_ther
     is-kept k e = there-some _ (ap (λ o. is_there (at_key link_number k o)) begins.opened ∙ sym (s.there k) ∙ e)
 
 -- the closes that are asked for once a turn began are, in order, those of what was run
-pub woke-closes : (told : Told) (x z : CoreView) (events : List Event) → IsCalm x → map connection_link z.connections ≡ map connection_link x.connections → Distinct (links_of x) → x.servers.used ≤ 2 ^ 62 → AreInOrder x.servers → Follows x z (run (state_of x told) events) → ((k : ℕ) → close_of k (run (state_of x told) events).acts ≡ None)
+pub woke-closes : (told : Beside) (x z : CoreView) (events : List Event) → IsCalm x → map connection_link z.connections ≡ map connection_link x.connections → Distinct (links_of x) → x.servers.used ≤ 2 ^ 62 → AreInOrder x.servers → Follows told x z (run (state_of x told) events) → ((k : ℕ) → close_of k (run (state_of x told) events).acts ≡ None)
     → closings (run (state_of x told) events).acts ≡ closes_asked z
 woke-closes told x z events calm links distinct few order did none =
     no-closes acts none ∙ servers ∙ sym (append-nil (seat_closes z.servers.seats)) ∙ ap (λ cs. seat_closes z.servers.seats ++ cs) (sym clients)
@@ -426,11 +428,12 @@ LoopStep-woke x y z a b m tokens call sent choked asked used there undrained lis
       events = (takes (s.told (call.told t) going)).takes.events;
       reaches = rw (append-nil (events_of a.taken (Woke m))) ((takes (s.told (call.told t) going)).takes.reaches);
       rises = keeps.rises;
-      advances = λ same below rows were. advances t s same below rows were (s.told (call.told t) going);
+      verdicts = keeps.verdicts;
+      advances = λ same below rows were agrees. advances t s same below rows were agrees (s.told (call.told t) going);
       silent = λ over. refl;
-      last = λ same below rows were on over.
+      last = λ same below rows were agrees on over.
           let events = (takes (s.told (call.told t) going)).takes.events in
-          let did = (takes (s.told (call.told t) going)).takes.takes.does same below s.among.once rows were in
+          let did = (takes (s.told (call.told t) going)).takes.takes.does same below s.among.once rows were agrees in
           record { front = []; happening = Woke m; back = []; same = refl; within = some-events (state_of x.core rows) events (end-by x.core.quits z.core.quits _ going did.quits over); silent = refl };
     })
   where
@@ -475,17 +478,17 @@ LoopStep-woke x y z a b m tokens call sent choked asked used there undrained lis
     began : AgreesWithSockets x a → z.ran ≡ 0 → z.core.servers.wanted ≡ []
     began s stopped = ap (λ (c : CoreView). c.servers.wanted) reports.core ∙ begins.idle calm.asked (sym reports.ran ∙ stopped)
 
-    advances : IsTrue b.tells → AgreesWithSockets x a → z.core.starved ≡ x.core.starved → x.core.starved < 2 ^ 64 - 1 → (rows : Told) → WereTold x.core rows → (t : AgreesWithHappenings x.clock x.links.opened.items x.used x.ran x.refused.items x.unlisted a.taken) → MomentAdvances rows (moment x a) (moment z b) (closes_asked z.core) (takes t).takes.events
-    advances t s same below rows were told' =
+    advances : IsTrue b.tells → AgreesWithSockets x a → z.core.starved ≡ x.core.starved → x.core.starved < 2 ^ 64 - 1 → (rows : Beside) → WereTold x.core rows → Agrees rows.oracle z.core.verdicts → (t : AgreesWithHappenings x.clock x.links.opened.items x.used x.ran x.refused.items x.unlisted a.taken) → MomentAdvances rows (moment x a) (moment z b) (closes_asked z.core) (takes t).takes.events
+    advances t s same below rows were agrees told' =
         let events = (takes told').takes.events in
-        let did = (takes told').takes.takes.does same below s.among.once rows were in
+        let did = (takes told').takes.takes.does same below s.among.once rows were agrees in
         let acts = (run (state_of x.core rows) events).acts in
         let later = among s.among in
-        let closes = (takes told').closes (λ link e. s.among.spared link e) same below s.among.once rows were in
+        let closes = (takes told').closes (λ link e. s.among.spared link e) same below s.among.once rows were agrees in
         MomentAdvances-takes rows (moment x a) (moment z b) (closes_asked z.core) events did keeps.links (reports.used ∙ begins.used) keeps.servers later.seats (clients-above x.links.opened.items x.core x.used x.listening x.refused.items a s.among)
         (λ k low. party-used k x.links.opened.items z.links.opened.items x.core z.core x.used x.listening x.refused.items a low keeps.links keeps.servers s.among) s.among.alone later.alone (sent t) (choked t)
         (rw (asked t, did.servers.wanted) (ap (λ xs. a.asked ++ xs) (asks_of-append x.core.servers.wanted (wanted_in (outs_of acts))) ∙ sym (append_assoc a.asked (asks_of x.core.servers.wanted) (asks_in acts))))
-        (Woke m ∷ []) (call.taken t) (woke-closes rows x.core z.core events calm keeps.links s.among.once s.among.limited s.among.order did closes) ((takes told').takes.takes.stops same below s.among.once rows were)
+        (Woke m ∷ []) (call.taken t) (woke-closes rows x.core z.core events calm keeps.links s.among.once s.among.limited s.among.order did closes) ((takes told').takes.takes.stops same below s.among.once rows were agrees)
 
 -- ---- what follows of it
 

@@ -13,9 +13,10 @@ use Rattle.wc_core.specs.Served.{links_of, state_of, WereTold, Distinct, KeepsCl
 use Rattle.wc_board.specs.Connections.{leaving_on}
 use Rattle.wc_core.specs.Served.{Follows}
 use Rattle.wc_core.specs.ServersKept.{ServersKeep}
-use Rattle.wc_board.specs.Told.{Told}
+use Rattle.wc_core.specs.State.{Beside}
 use Rattle.wc_turns.specs.declared.links.Closed.{Closed}
 use Rattle.wc_turns.specs.Run.{EndsAtQuit}
+use Rattle.wc_eval.specs.Verdicts.{Agrees}
 
 -- the close that a client asks for, if it is leaving
 abbrev pub closed_by : LinkId → Option Cause → List Closed
@@ -46,10 +47,12 @@ pub record ReachesEvents (quits quits' : Bool) (ran ran' : ℕ) (all events : Li
 pub record MayRun (old new : CoreView) (events : List Event) : Type 0 where
   pub keeps : KeepsClients old new
   pub does : new.starved ≡ old.starved → old.starved < 2 ^ 64 - 1 → Distinct (links_of old) →
-      (told : Told) → WereTold old told → Follows old new (run (state_of old told) events)
+      (told : Beside) → WereTold old told → Agrees told.oracle new.verdicts →
+      Follows told old new (run (state_of old told) events)
   -- none of them comes after one that runs `/quit`
   pub stops : new.starved ≡ old.starved → old.starved < 2 ^ 64 - 1 → Distinct (links_of old) →
-      (told : Told) → WereTold old told → EndsAtQuit (state_of old told) events
+      (told : Beside) → WereTold old told → Agrees told.oracle new.verdicts →
+      EndsAtQuit (state_of old told) events
 
 -- the core takes those of the events that are reached, unless some growth was refused
 pub record MayTake (old new : CoreView) (ran ran' : ℕ) (all : List Event) : Type 0 where

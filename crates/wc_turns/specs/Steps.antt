@@ -15,7 +15,7 @@ use Rattle.wc_core.specs.Events.{Event}
 use Rattle.wc_board.specs.Connections.{connection_link, new_connection, leaving_on, is_open_at}
 use Rattle.wc_board.specs.Served.{StaysOrStarves}
 use Rattle.wc_core.specs.Served.{AdmitsUnlessStarved}
-use Rattle.wc_board.specs.Told.{Told}
+use Rattle.wc_core.specs.State.{Beside}
 use Rattle.wc_turns.specs.Contained.{HasStarved}
 use Rattle.wc_turns.specs.Parties.{has_party, IsCalm, is_refused}
 use Rattle.wc_turns.specs.Served.{closed_by, MayRun, MayTake}
@@ -31,6 +31,7 @@ use Rattle.wc_outside.specs.Keyed.{at_key, without}
 use Rattle.wc_turns.specs.Events.{clock_from, wake_events, loss_of}
 use Rattle.wc_turns.specs.Links.{link_number, is_undrained, is_blocked, kind_of, new_state}
 use Rattle.wc_turns.specs.Tails.{IsTail}
+use Rattle.wc_eval.specs.Verdicts.{Agrees}
 
 -- what comes after the last LF of each link is as before
 abbrev pub SameTails : List LinkState → List LinkState → Type 0
@@ -64,7 +65,7 @@ pub record TakesArrival (x y : Headless) (link : LinkId) (nonce : List ℕ) : Ty
         ++ new_connection x.core.options link nonce ∷ [];
     servers = used_up link.0 x.core.servers;
   }
-  pub step : Absent link.0 (links_of x.core) → (told : Told) →
+  pub step : Absent link.0 (links_of x.core) → (told : Beside) →
       AdmitsUnlessStarved told link.0 x.core y.core None
       (step (state_of x.core told) (Arrives link.0 nonce))
 
@@ -88,7 +89,7 @@ pub record RefusesArrival (x y : Headless) (link : LinkId) (nonce : List ℕ) : 
   pub starves : cause ≡ None → HasStarved x.core.starved y.core.starved
   pub step : y.core.starved ≡ x.core.starved → x.core.starved < 2 ^ 64 - 1 →
       has_party link.0 x.core ≡ false
-      → (told : Told) → WereTold x.core told → step (state_of x.core told) (Arrives link.0 nonce)
+      → (told : Beside) → WereTold x.core told → step (state_of x.core told) (Arrives link.0 nonce)
       ≡ record {
         state = record (state_of x.core told) { used = max x.core.servers.used link.0 };
         acts = refusal link.0 cause;
@@ -169,8 +170,9 @@ pub record TakesAside (aside : List LinkId) (x y : CoreView) (ran ran' : ℕ) (a
     Type 0 where
   pub takes : MayTake x y ran ran' all
   pub closes : ((link : ℕ) → is_refused link aside ≡ true → at_key connection_link link x.connections
-      ≡ None) → y.starved ≡ x.starved → x.starved < 2 ^ 64 - 1 → Distinct (links_of x) → (told : Told)
-      → WereTold x told → (link : ℕ) → close_of link (run (state_of x told) takes.events).acts ≡ None
+      ≡ None) → y.starved ≡ x.starved → x.starved < 2 ^ 64 - 1 → Distinct (links_of x) → (told : Beside)
+      → WereTold x told → Agrees told.oracle y.verdicts → (link : ℕ) →
+      close_of link (run (state_of x told) takes.events).acts ≡ None
 
 -- A turn begins: no link is closed in it yet, the core takes the event of the wait and then the
 -- losses of the connections that were refused before, and the clock shows the moment. Clients may
@@ -276,8 +278,8 @@ pub record LosesEach (links : List LinkId) (x y : CoreView) : Type 0 where
       StaysOrStarves (leaving_on link x.connections) (leaving_on link y.connections)
   -- where none of them has a client, none is closed
   pub closes : ((link : ℕ) → is_refused link links ≡ true → at_key connection_link link x.connections
-      ≡ None) → y.starved ≡ x.starved → x.starved < 2 ^ 64 - 1 → Distinct (links_of x) → (told : Told)
-      → WereTold x told → (link : ℕ) →
+      ≡ None) → y.starved ≡ x.starved → x.starved < 2 ^ 64 - 1 → Distinct (links_of x) → (told : Beside)
+      → WereTold x told → Agrees told.oracle y.verdicts → (link : ℕ) →
       close_of link (run (state_of x told) (map loss_of links)).acts ≡ None
 
 -- so many more were lost that are not listed: want of memory is counted where there are any

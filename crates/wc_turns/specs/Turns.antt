@@ -28,7 +28,7 @@ use Rattle.wc_servers.specs.Seats.{seat_link, AreSeats}
 use Rattle.wc_core.specs.Served.{state_of, WereTold, Means, Distinct, KeepsSaved, outs_of, sent_to}
 use Rattle.wc_core.specs.ServersKept.{is_wanted, AreNext, AreInOrder, ServersKeep}
 use Rattle.wc_core.specs.State.{Act, has_end}
-use Rattle.wc_board.specs.Told.{Told}
+use Rattle.wc_core.specs.State.{Beside}
 use Rattle.wc_turns.specs.declared.links.LinkState.{LinkState}
 use Rattle.wc_turns.specs.declared.links.Closed.{Closed}
 use Rattle.wc_turns.specs.declared.headless.Headless.{Headless}
@@ -45,6 +45,7 @@ use Rattle.wc_turns.specs.Parties.{has_party, unsent_on, owed_to, asks_of, asks_
 use Rattle.wc_turns.specs.Parties.{closes_asked}
 use Rattle.wc_turns.specs.Served.{ReachesEvents, MayTake}
 use Rattle.wc_turns.specs.Tails.{IsTail}
+use Rattle.wc_eval.specs.Verdicts.{Agrees, Stay}
 
 -- what the loop keeps is what the happenings make of it: the clock, what came after the last LF of
 -- each link, which connections stand, which ones were refused since the last wake, of which some are
@@ -175,9 +176,10 @@ pub record OnOneSide (old new : CoreView) (acts : List Act) : Type 0 where
 -- From one moment to another the core, where these rows were told before, takes these events, of
 -- which none comes after `/quit`, what it owes is handed to each link, what it wants connected is
 -- asked for, and it closes these links.
-pub record MomentAdvances (told : Told) (a b : Moment) (closed : List Closed)
+pub record MomentAdvances (told : Beside) (a b : Moment) (closed : List Closed)
     (events : List Event) : Type 0 where
   pub means : Means b.core (run (state_of a.core told) events).state
+  pub oracle : (run (state_of a.core told) events).state.oracle ≡ told.oracle
   pub stops : EndsAtQuit (state_of a.core told) events
   pub hands : (link : ℕ) → Delivers (point link a) (point link b)
       (owed_to link (run (state_of a.core told) events).acts)
@@ -217,12 +219,14 @@ pub record CoreTakes (a b : Moment) (ran ran' : ℕ) (closed : List Closed) (mor
   pub events : List Event
   pub reaches : ReachesEvents a.core.quits b.core.quits ran ran' (events_from a.taken more) events
   pub rises : a.core.starved ≤ b.core.starved
-  pub advances : b.core.starved ≡ a.core.starved → a.core.starved < 2 ^ 64 - 1 → (told : Told) →
-      WereTold a.core told → MomentAdvances told a b closed events
+  pub verdicts : Stay a.core.verdicts b.core.verdicts
+  pub advances : b.core.starved ≡ a.core.starved → a.core.starved < 2 ^ 64 - 1 → (told : Beside) →
+      WereTold a.core told → Agrees told.oracle b.core.verdicts →
+      MomentAdvances told a b closed events
   pub silent : a.core.quits ≡ true → GivesNothing more
-  pub last : b.core.starved ≡ a.core.starved → a.core.starved < 2 ^ 64 - 1 → (told : Told) →
-      WereTold a.core told → a.core.quits ≡ false → b.core.quits ≡ true →
-      QuitsWithin a.taken more events
+  pub last : b.core.starved ≡ a.core.starved → a.core.starved < 2 ^ 64 - 1 → (told : Beside) →
+      WereTold a.core told → Agrees told.oracle b.core.verdicts → a.core.quits ≡ false →
+      b.core.quits ≡ true → QuitsWithin a.taken more events
 
 -- between two moments this happened
 pub record HasGained (before after : Seen) (happening : Happening) : Type 0 where
@@ -419,5 +423,5 @@ pub record ClosesExactly (old new : Headless) (before after : Seen) : Type 0 whe
   pub reaches : IsTrue after.tells → ReachesEvents old.core.quits new.core.quits old.ran new.ran
       (events_from before.taken gained) events
   pub closed : IsTrue after.tells → new.core.starved ≡ old.core.starved →
-      old.core.starved < 2 ^ 64 - 1 → (told : Told) → WereTold old.core told →
-      new.links.closed.items ≡ closings (run (state_of old.core told) events).acts
+      old.core.starved < 2 ^ 64 - 1 → (told : Beside) → WereTold old.core told →
+      Agrees told.oracle new.core.verdicts → new.links.closed.items ≡ closings (run (state_of old.core told) events).acts

@@ -6,6 +6,7 @@ ghost use Rattle.wc_outside.specs.declared.happening.Happening.TheVariants.{Woke
 ghost use Rattle.wc_outside.specs.Keyed.{IsKeyPlace};
 ghost use Rattle.wc_core.specs.Limits.{most_lines};
 ghost use Rattle.wc_core.specs.State.{first_state};
+ghost use Rattle.wc_eval.specs.Verdicts.{Oracle};
 ghost use Rattle.wc_core.specs.LinksSeen.{unsent_in_core};
 ghost use Rattle.wc_servers.specs.Seats.{no_servers, used_up};
 ghost use Rattle.wc_core.specs.Served.{Means};
@@ -60,8 +61,8 @@ impl Headless {
     /// The state before the first turn, where these are the options. The commands are run after the
     /// first wait.
     pub fn new(alloc: Global, options: Options, commands: Vec<String>) -> Result<Headless, NoMemory>
-        ensures means { IfOk result (λ headless. Means headless.core (first_state options
-            (most_lines options) (map string_bytes commands.items))) }
+        ensures means { IfOk result (λ headless. (oracle : Oracle) → Means headless.core
+            (first_state oracle options (most_lines options) (map string_bytes commands.items))) }
         ensures core { IfOk result (λ headless. (headless.core.connections ≡ [])
             × (headless.core.starved ≡ 0) × (headless.core.quits ≡ false)) }
         ensures links { IfOk result (λ headless. (headless.links.opened.items ≡ [])
@@ -71,6 +72,7 @@ impl Headless {
         ensures refused { IfOk result (λ headless. (headless.refused.items ≡ [])
             × (headless.unlisted ≡ 0)) }
         ensures servers { IfOk result (λ headless. headless.core.servers ≡ no_servers) }
+        ensures unjudged { IfOk result (λ headless. headless.core.verdicts.rows ≡ []) }
         ensures written { IfOk result (λ headless. (headless.core.unwritten ≡ false)
             × (headless.core.saved ≡ None)) }
     {

@@ -44,10 +44,10 @@ returns-clause-runs g c =
       served = λ q. AllServed-following c.take_turns-then.new.headless.core (seen c.args.sockets.now) (seen c.listen.new.self) (seen c.take_turns-then.new.sockets) (record { told = listened.told; more = []; taken = listened.taken }) (later-of _ _ ran.continues.step) (ran.served q c.requires.above);
       sent = λ q. AllSent-following c.take_turns-then.new.headless.core (seen c.args.sockets.now) (seen c.listen.new.self) (seen c.take_turns-then.new.sockets) (record { told = listened.told; more = []; taken = listened.taken }) (later-of _ _ ran.continues.step) listened.counts (ran.sent q);
       left = λ above. record {
-        headline = Headline-known _ _ c.in-Ok.made.headless _ _ _ c.in-Ok.ensures.known (λ t fed rows were. HandsOut-run c.in-Ok.made.headless c.take_turns-then.new.headless (seen c.listen.new.self) (seen c.take_turns-then.new.sockets) c.in-Ok.made.port ran.continues.step first fresh heard ran.calm t fed rows were);
+        headline = Headline-known _ _ c.in-Ok.made.headless _ _ _ c.in-Ok.ensures.known (λ t fed rows were judged. HandsOut-run c.in-Ok.made.headless c.take_turns-then.new.headless (seen c.listen.new.self) (seen c.take_turns-then.new.sockets) c.in-Ok.made.port ran.continues.step first fresh heard ran.calm t fed rows were judged);
         agrees = ran.agrees;
         calm = ran.calm;
-        causes = (let turn = ran.causes above in closes-last _ _ c.in-Ok.made.headless c.take_turns-then.new.headless (seen c.args.sockets.now) (seen c.listen.new.self) (seen c.take_turns-then.new.sockets) listened.counts turn (Headline-known _ _ c.in-Ok.made.headless _ turn.seen turn.earlier c.in-Ok.ensures.known (λ t fed rows were. HandsOut-run c.in-Ok.made.headless turn.earlier (seen c.listen.new.self) turn.seen c.in-Ok.made.port turn.until first fresh heard turn.calm t fed rows were)));
+        causes = (let turn = ran.causes above in closes-last _ _ c.in-Ok.made.headless c.take_turns-then.new.headless (seen c.args.sockets.now) (seen c.listen.new.self) (seen c.take_turns-then.new.sockets) listened.counts turn (Headline-known _ _ c.in-Ok.made.headless _ turn.seen turn.earlier c.in-Ok.ensures.known (λ t fed rows were judged. HandsOut-run c.in-Ok.made.headless turn.earlier (seen c.listen.new.self) turn.seen c.in-Ok.made.port turn.until first fresh heard turn.calm t fed rows were judged)));
       };
     })
     c.ending_of.ensures)
@@ -79,7 +79,7 @@ returns-clause-unsaved g c = λ three.
     let fresh = Fresh-listening (seen c.args.sockets.now) (seen c.listen.new.self) new listened.told listened.taken listened.sent listened.used listened.there listened.undrained listened.listening listened.blocked in
     let heard : IsTrue (seen c.listen.new.self).tells → (seen c.listen.new.self).asked ≡ Listen c.in-Ok.made.port ∷ [] = λ t. listened.asked t ∙ ap (λ xs. xs ++ Listen c.in-Ok.made.port ∷ []) (new.asked (listened.told t)) in
     let fails = ran.unwritten (keeper-of c.take_turns-then.result c.ending_of.result c.ending_of.ensures three) in
-    let known = Headline-known _ _ c.in-Ok.made.headless _ fails.seen fails.earlier c.in-Ok.ensures.known (λ t fed rows were. HandsOut-run c.in-Ok.made.headless fails.earlier (seen c.listen.new.self) fails.seen c.in-Ok.made.port fails.until first fresh heard fails.calm t fed rows were) in
+    let known = Headline-known _ _ c.in-Ok.made.headless _ fails.seen fails.earlier c.in-Ok.ensures.known (λ t fed rows were judged. HandsOut-run c.in-Ok.made.headless fails.earlier (seen c.listen.new.self) fails.seen c.in-Ok.made.port fails.until first fresh heard fails.calm t fed rows were judged) in
     rw c.last_state.ensures (IfSome-last (kept_of c.take_turns-then.new.headless) c.take_turns-then.new.headless _ refl (λ above. held-earlier _ (contents c.args.keeper.now) (contents c.configure.new.keeper) (contents c.take_turns-then.new.keeper) c.in-Ok.made.headless c.take_turns-then.new.headless (seen c.listen.new.self) (seen c.take_turns-then.new.sockets) first.saved c.configure.ensures.kept fails known))
 
 pub returns-clause-unwoken : goal.returns-clause-unwoken

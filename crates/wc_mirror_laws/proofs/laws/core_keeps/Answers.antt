@@ -8,7 +8,7 @@ pub returns-clause-event : goal.returns-clause-event
 returns-clause-event c = λ limit link state event kept. step_keeps limit link state event kept
 
 pub returns-clause-run : goal.returns-clause-run
-returns-clause-run c = λ options limit commands connects events link most texts. run_keeps options limit commands connects events link most texts
+returns-clause-run c = λ oracle options limit commands connects events link most texts. run_keeps oracle options limit commands connects events link most texts
 
 pub returns-clause-change : goal.returns-clause-change
 returns-clause-change c = λ limit link state change kept told good. change_keeps limit link state change kept told good

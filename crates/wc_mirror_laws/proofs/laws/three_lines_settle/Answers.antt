@@ -2,10 +2,10 @@ use Rattle.wc_mirror_laws.proofs.ExampleLemmas.{three_lines_settle, three_lines_
 use Rattle.wc_mirror_laws.proofs.laws.three_lines_settle.Goals as goal
 
 pub returns-clause-lines : goal.returns-clause-lines
-returns-clause-lines c = λ limit. three_lines_settle limit
+returns-clause-lines c = λ oracle limit. three_lines_settle oracle limit
 
 pub returns-clause-buffers : goal.returns-clause-buffers
-returns-clause-buffers c = λ limit. three_lines_settle_buffers limit
+returns-clause-buffers c = λ oracle limit. three_lines_settle_buffers oracle limit
 
 pub returns-clause-nicks : goal.returns-clause-nicks
-returns-clause-nicks c = λ limit. three_lines_settle_nicks limit
+returns-clause-nicks c = λ oracle limit. three_lines_settle_nicks oracle limit

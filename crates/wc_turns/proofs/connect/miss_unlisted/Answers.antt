@@ -7,12 +7,13 @@ use Rattle.wc_turns.proofs.ContainedLemmas.{starved-counted}
 use Rattle.wc_turns.proofs.LossLemmas.{starved-stays}
 use Rattle.wc_turns.proofs.SeatLemmas.{loses-keeps}
 use Rattle.wc_turns.proofs.connect.miss_unlisted.Goals as goal
+use Rattle.wc_core.specs.Served.{plain_beside}
 
 pub returns-then-unlisted-gt0 : goal.returns-then-unlisted-gt0
 returns-then-unlisted-gt0 c =
     let e = c.link_gone.ensures in
     let old = c.args.core.now in
-    let keeps = (e.does old.world.nicks).keeps in
+    let keeps = (e.does (plain_beside old)).keeps in
     record {
       keeps = keeps;
       quits = ap (λ (v : CoreView). v.quits) e.stays;

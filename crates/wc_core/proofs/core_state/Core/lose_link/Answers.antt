@@ -6,6 +6,7 @@ use Rattle.wc_core.proofs.LinkLemmas.{shut-chooses, open-chooses, stays-shut}
 use Rattle.wc_core.specs.CoreView.{CoreView}
 use Rattle.wc_core.proofs.ServedLemmas.{loses-other, loses-server}
 use Rattle.wc_core.proofs.core_state.Core.lose_link.Goals as goal
+use Rattle.wc_core.specs.Served.{plain_beside}
 
 pub returns-then-is_open-clause-does : goal.returns-then-is_open-clause-does
 returns-then-is_open-clause-does c =
@@ -26,4 +27,4 @@ returns-clause-servers c = rw (← c.self.view_is) (loses-server _ c.lose_server
 pub returns-clause-gone : goal.returns-clause-gone
 returns-clause-gone c =
     let Q : CoreView → Type 0 = λ core. is_open_at (at_key connection_link c.args.link.0 core.connections) ≡ false in
-    stays-shut c.args.self.now c.lose_server.new.self c.args.link.0 (c.lose_server.ensures.does c.args.self.now.world.nicks).keeps (subst Q c.self.view_is (sym c.is_open.ensures ∙ c.if-is_open.false))
+    stays-shut c.args.self.now c.lose_server.new.self c.args.link.0 (c.lose_server.ensures.does (plain_beside c.args.self.now)).keeps (subst Q c.self.view_is (sym c.is_open.ensures ∙ c.if-is_open.false))

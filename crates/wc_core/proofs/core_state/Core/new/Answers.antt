@@ -10,7 +10,7 @@ use Rattle.wc_core.proofs.PushLemmas.{first-means}
 use Rattle.wc_core.proofs.core_state.Core.new.Goals as goal
 
 pub returns-clause-means : goal.returns-clause-means
-returns-clause-means c =
+returns-clause-means c = λ oracle.
     let limit = most_lines c.args.options in
     let commands = map string_bytes c.args.commands.items in
     let of : BoardView → ServersView → CoreView = λ board servers. record {
@@ -23,10 +23,11 @@ returns-clause-means c =
       saved = None;
       unwritten = false;
       servers = servers;
+      verdicts = c.in_ok-verdicts.verdicts;
       connects = true;
       starved = 0;
       quits = false;
     } in
-    let P : BoardView → Type 0 = λ board. Means (of board no_servers) (first_state c.args.options limit commands) in
-    let Q : ServersView → Type 0 = λ servers. Means (of c.in_ok-board.board servers) (first_state c.args.options limit commands) in
-    subst Q (sym c.new-2.ensures) (subst P (sym (c.in_ok-board.ensures ∙ ap first_board c.most_lines.ensures.number)) (first-means c.args.options limit commands 0 false))
+    let P : BoardView → Type 0 = λ board. Means (of board no_servers) (first_state oracle c.args.options limit commands) in
+    let Q : ServersView → Type 0 = λ servers. Means (of c.in_ok-board.board servers) (first_state oracle c.args.options limit commands) in
+    subst Q (sym c.new-3.ensures) (subst P (sym (c.in_ok-board.ensures ∙ ap first_board c.most_lines.ensures.number)) (first-means oracle c.in_ok-verdicts.verdicts c.args.options limit commands 0 false))

@@ -9,8 +9,8 @@ use Rattle.wc_core.proofs.DidLemmas.{Does-stays}
 use Rattle.wc_core.proofs.StartLemmas.{commands-quit, commands-more, drop_past, none-of}
 use Rattle.wc_core.proofs.core_state.Core.run_commands.Goals as goal
 
-pub run_lines-requires : goal.run_lines-requires
-run_lines-requires c = c.as_bytes.ensures.utf8
+pub run_lines-requires-clause-text : goal.run_lines-requires-clause-text
+run_lines-requires-clause-text c = c.as_bytes.ensures.utf8
 
 pub returns-then-self-clause-does : goal.returns-then-self-clause-does
 returns-then-self-clause-does c =

@@ -8,8 +8,8 @@ use Rattle.wc_core.proofs.TypedLemmas.{first_utf8, others_utf8}
 use Rattle.wc_core.proofs.ServeLemmas.{gone_left, quit_left, more_left}
 use Rattle.wc_core.proofs.core_state.Core.run_lines.Goals as goal
 
-pub run_line-requires : goal.run_line-requires
-run_line-requires c = rw c.split_once.ensures.front (first_utf8 c.in-Some.rest.now (subst LeftUtf8 c.in-Some.is c.loop-left.invariant.text))
+pub run_line-requires-clause-text : goal.run_line-requires-clause-text
+run_line-requires-clause-text c = rw c.split_once.ensures.front (first_utf8 c.in-Some.rest.now (subst LeftUtf8 c.in-Some.is c.loop-left.invariant.text))
 
 pub returns-then-not-has_buffer : goal.returns-then-not-has_buffer
 returns-then-not-has_buffer c = c.loop-left.invariant.onward c.loop-left.self
@@ -26,7 +26,8 @@ loop-left-preserved c = record {
   text = others_utf8 c.in-Some.rest.now c.split_once.result.1 (subst LeftUtf8 c.in-Some.is c.loop-left.invariant.text) c.split_once.ensures.back;
   onward = λ final done. c.loop-left.invariant.onward final
       (more_left c.loop-left.self c.run_line.new.self final c.args.buffer c.loop-left.left c.in-Some.rest c.split_once.result.0.now c.split_once.result.1 c.in-Some.is c.split_once.ensures.front c.split_once.ensures.back
-      (sym c.has_buffer.ensures ∙ c.if-not-has_buffer.false) (c.run_line.ensures.goes_on c.if-run_line.false) done);
+      (sym c.has_buffer.ensures ∙ c.if-not-has_buffer.false) c.loop-left.invariant.going (c.run_line.ensures.goes_on c.if-run_line.false) done);
+  going = (c.run_line.ensures.goes_on c.if-run_line.false).goes;
 }
 
 pub returns : goal.returns

@@ -1,3 +1,4 @@
+use Rattle.std.proofs.Common.{◌≡◌, false}
 use Rattle.wc_core.specs.CoreView.{CoreView}
 use Rattle.wc_core.specs.Typed.{lines_of_text}
 use Rattle.wc_core.specs.TypedSeen.{lines_left, length_left, LeftUtf8}
@@ -9,6 +10,7 @@ use Rattle.wc_core.proofs.core_state.Core.run_lines.Given as goal
 abbrev pub invariant-loop-left : goal.invariant-loop-left
 invariant-loop-left l = record {
   text : LeftUtf8 l.left;
+  going : l.self.quits ≡ false;
   onward : (final : CoreView) → Does l.self final (λ state. lines_step state l.buffer (lines_left l.left)) → Does l.fn.self final (λ state. lines_step state l.buffer (lines_of_text l.text));
 }
 

@@ -2,6 +2,7 @@ use Rattle.std.proofs.Common.{refl}
 use Rattle.wc_turns.proofs.TakesLemmas.{TakesHappening-stands, stood-at}
 use Rattle.wc_turns.proofs.WakeLemmas.{stands-causes}
 use Rattle.wc_turns.proofs.headless.Headless.link_stands.Goals as goal
+use Rattle.wc_core.specs.Served.{plain_beside}
 
 pub returns-clause-takes : goal.returns-clause-takes
 returns-clause-takes c =
@@ -16,4 +17,4 @@ pub returns-clause-links : goal.returns-clause-links
 returns-clause-links c = λ distinct other. stands-causes c.args.self.now.core c.link_stands.new.self c.args.link.0 c.link_stands.ensures distinct other
 
 pub returns-clause-keeps : goal.returns-clause-keeps
-returns-clause-keeps c = (c.link_stands.ensures c.args.self.now.core.world.nicks).keeps
+returns-clause-keeps c = (c.link_stands.ensures (plain_beside c.args.self.now.core)).keeps

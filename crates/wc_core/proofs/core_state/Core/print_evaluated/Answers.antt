@@ -1,0 +1,10 @@
+use Rattle.std.proofs.Common.{sym, subst}
+use Rattle.wc_model.specs.declared.change.Change.{Change}
+use Rattle.wc_core.specs.Texts.{WhatUtf8}
+use Rattle.wc_core.proofs.ResolvedTexts.{printed_text}
+use Rattle.wc_core.proofs.core_state.Core.print_evaluated.Goals as goal
+
+pub ask_change-requires : goal.ask_change-requires
+ask_change-requires c =
+    let P : Change → Type 0 = λ change. WhatUtf8 change.what in
+    subst P (sym c.in-Ok.ensures) (printed_text c.self.inside.moment c.args.value.now c.requires)
