@@ -14,4 +14,6 @@ pub data Event : Type 0 where
   -- the bytes of a link came to their end, or the link failed
   Ends : ℕ → Event
   Fails : ℕ → Event
+  -- what came on a link is no WebSocket, though it began as one
+  Breaks : ℕ → Event
   ListenFails : Event

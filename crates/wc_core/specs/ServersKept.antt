@@ -5,7 +5,7 @@ use Rattle.std.specs.Prelude.{nat_le, if◌then◌else◌}
 use Rattle.std.specs.List.{flat_map, list_any}
 use Rattle.wc_text.specs.declared.names.Cause.{Cause}
 use Rattle.wc_text.specs.declared.names.Cause.TheVariants.{Ended, Failed, LoginFailed, Surplus}
-use Rattle.wc_text.specs.declared.names.Cause.TheVariants.{Quit, NoMemory, Disconnected, NickTaken}
+use Rattle.wc_text.specs.declared.names.Cause.TheVariants.{Quit, NoMemory, Disconnected, NickTaken, BadSocket}
 use Rattle.wc_outside.specs.Keyed.{at_key, put_at}
 use Rattle.wc_irc.specs.Servers.{ServerState}
 use Rattle.wc_servers.specs.declared.wanted.Wanted.{Wanted}
@@ -142,6 +142,7 @@ PartsOnly P old new = (link : ℕ) → PartsFor P link (leaving_on link old.seat
 abbrev pub PartsAtLine : ℕ → ℕ → Cause → Type 0
 PartsAtLine line link Disconnected = Unit {0}
 PartsAtLine line link NickTaken = link ≡ line
+PartsAtLine line link BadSocket = ⊥
 PartsAtLine line link NoMemory = ⊥
 PartsAtLine line link LoginFailed = ⊥
 PartsAtLine line link Quit = ⊥
@@ -153,6 +154,7 @@ PartsAtLine line link Surplus = ⊥
 abbrev pub PartsAtStart : ℕ → Cause → Type 0
 PartsAtStart link Disconnected = Unit {0}
 PartsAtStart link NickTaken = ⊥
+PartsAtStart link BadSocket = ⊥
 PartsAtStart link NoMemory = ⊥
 PartsAtStart link LoginFailed = ⊥
 PartsAtStart link Quit = ⊥

@@ -4,7 +4,7 @@ use Rattle.std.specs.Prelude.{nat_lt, if◌then◌else◌, Option, Some, None}
 use Rattle.std.specs.Str.{is_utf8}
 use Rattle.wc_text.specs.declared.names.Handle.{Handle}
 use Rattle.wc_text.specs.declared.names.Cause.{Cause}
-use Rattle.wc_text.specs.declared.names.Cause.TheVariants.{Ended, Failed, Surplus}
+use Rattle.wc_text.specs.declared.names.Cause.TheVariants.{Ended, Failed, Surplus, BadSocket}
 use Rattle.wc_outside.specs.Keyed.{at_key, put_at, without}
 use Rattle.wc_buffers.specs.Calls.{is_there}
 use Rattle.wc_relaycmd.specs.Answers.{request_of}
@@ -16,7 +16,7 @@ use Rattle.wc_session.specs.Known.{new_client}
 use Rattle.wc_session.specs.Reply.{Answer, reply_of}
 use Rattle.wc_servers.specs.Seats.{server_link}
 use Rattle.wc_core.specs.Events.{Event, Start, Tick, Arrives, Line as LineCame, Stands, Ends, Fails}
-use Rattle.wc_core.specs.Events.{ListenFails}
+use Rattle.wc_core.specs.Events.{Breaks, ListenFails}
 use Rattle.wc_core.specs.Limits.{client_limit}
 use Rattle.wc_core.specs.Resolved.{Effect, Stays, Ends as ResolvedEnds, Tells, Asks, SetsOption}
 use Rattle.wc_core.specs.Resolved.{UnsetsOption, SavesOptions, effect_of}
@@ -227,6 +227,8 @@ step state (LineCame link line) = link_line_step state link line
 step state (Stands link) = stands_step state link (at_key server_link link state.servers)
 step state (Ends link) = link_loss_step state link Ended (at_key client_link link state.clients)
 step state (Fails link) = link_loss_step state link Failed (at_key client_link link state.clients)
+step state (Breaks link) =
+    link_loss_step state link BadSocket (at_key client_link link state.clients)
 step state ListenFails = no_step state
 
 -- what it does at one event after another

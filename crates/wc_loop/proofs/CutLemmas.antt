@@ -1,4 +1,4 @@
--- Runs whose happenings spell the same events.
+-- Runs in which what was heard spells the same events.
 use Rattle.std.proofs.Common.{◌≡◌, sym, ap, ◌∙◌}
 use Rattle.wc_outside.specs.Seen.{Seen}
 use Rattle.wc_core.specs.State.{State, has_end}
@@ -10,7 +10,7 @@ use Rattle.wc_turns.specs.Run.{up_to_quit}
 use Rattle.wc_loop.specs.Headline.{HandsOut}
 use Rattle.wc_loop.specs.Cuts.{RunAlike}
 
-pub runs-alike : (first : State) (a b : Seen) (x y : Headless) (one : HandsOut first a x) (other : HandsOut first b y) → whole a.taken ≡ whole b.taken → RunAlike first x y one.events other.events
+pub runs-alike : (first : State) (a b : Seen) (x y : Headless) (one : HandsOut first a x) (other : HandsOut first b y) → whole one.history ≡ whole other.history → RunAlike first x y one.events other.events
 runs-alike first a b x y one other e = record {
   reached = same;
   world = sym (ap (λ (s : State). s.world) one.means.same) ∙ ap (λ events. (run first events).state.world) same ∙ ap (λ (s : State). s.world) other.means.same;

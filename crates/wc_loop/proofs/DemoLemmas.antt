@@ -1,5 +1,5 @@
 -- What the run of a demo comes to.
-use Rattle.std.proofs.Common.{◌≡◌, ℕ, List, [], ◌++◌, Bool, IsTrue, false, Option, Some, Result, Ok, Err, IfOk, refl, sym, ap, subst, ◌∙◌, append-nil}
+use Rattle.std.proofs.Common.{◌≡◌, ℕ, List, [], ◌++◌, Bool, IsTrue, false, map, Option, Some, Result, Ok, Err, IfOk, refl, sym, ap, subst, ◌∙◌, append-nil}
 use Rattle.std.specs.Prelude.{max}
 use Rattle.wc_text.specs.declared.no_memory.NoMemory.{NoMemory}
 use Rattle.wc_outside.specs.Seen.{Seen}
@@ -11,6 +11,9 @@ use Rattle.wc_core.specs.State.{State}
 use Rattle.wc_core.specs.Step.{run}
 use Rattle.wc_turns.specs.declared.headless.Headless.{Headless}
 use Rattle.wc_turns.specs.Events.{whole}
+use Rattle.wc_turns.specs.Heard.{Happened, happenings}
+use Rattle.wc_turns.proofs.PlainLemmas.{plain-heard}
+use Rattle.wc_loop.proofs.DemoPlain.{plain-demo}
 use Rattle.wc_eval.specs.Verdicts.{Oracle, Agrees}
 use Rattle.wc_demo.specs.declared.counts.Counts.{Counts}
 use Rattle.wc_demo.specs.Client.{IsCountedBy}
@@ -48,11 +51,17 @@ ran-by words holds turns k k' contents before after ending found last w h t f r 
 all_events : (all events rest : List Event) → all ≡ events ++ rest → rest ≡ [] → events ≡ all
 all_events all events rest e none = sym (e ∙ ap (λ xs. events ++ xs) none ∙ append-nil events)
 
--- the world at the end is that of the run over what the sockets gave
-pub ends_in : (first : State) (seen : Seen) (last : Headless) → HandsOut first seen last → last.core.quits ≡ false → (run first (whole seen.taken)).state.world ≡ last.core.world
+-- the world at the end is that of the run over what was heard
+pub ends_in : (first : State) (seen : Seen) (last : Headless) (handed : HandsOut first seen last) → last.core.quits ≡ false → (run first (whole handed.history)).state.world ≡ last.core.world
 ends_in first seen last handed going =
-    let events = all_events (whole seen.taken) handed.events handed.reaches.rest handed.reaches.front (handed.reaches.whole going) in
+    let events = all_events (whole handed.history) handed.events handed.reaches.rest handed.reaches.front (handed.reaches.whole going) in
     ap (λ (es : List Event). (run first es).state.world) (sym events) ∙ ap (λ (s : State). s.world) handed.means.same
+
+-- what the sockets gave is all that was heard in a demo
+demo-heard : (lines : ℕ) (first : State) (seen : Seen) (last : Headless) (handed : HandsOut first seen last) → seen.taken ≡ demo_taken lines → handed.history ≡ map Happened (demo_taken lines)
+demo-heard lines first seen last handed taken =
+    let spells : happenings handed.history ≡ demo_taken lines = handed.spells ∙ taken in
+    plain-heard (demo_taken lines) (plain-demo lines) [] handed.history spells handed.sockets ∙ ap (map Happened) spells
 
 counted : (lines : ℕ) (counts : Counts) (seen : Seen) (last : Headless) → RunsDemo seen last → IsTrue seen.tells → seen.taken ≡ demo_taken lines → counts ≡ counts_of last.core.world
     → IsCountedBy (max last.core.world.limit 1) (seen.sent client.0) (unsent_to_client last) counts → AreDemoCounts lines counts
@@ -61,7 +70,7 @@ counted lines counts seen last demo tells taken are mirrored =
     record {
       seen = seen;
       last = last;
-      are = λ oracle judged. are ∙ sym (ap counts_of (ends_in (demo_state oracle) seen last (handed oracle judged) demo.going)) ∙ ap (λ xs. counts_of (run (demo_state oracle) (whole xs)).state.world) taken;
+      are = λ oracle judged. are ∙ sym (ap counts_of (ends_in (demo_state oracle) seen last (handed oracle judged) demo.going)) ∙ ap (λ hs. counts_of (run (demo_state oracle) (whole hs)).state.world) (demo-heard lines (demo_state oracle) seen last (handed oracle judged) taken);
       taken = taken;
       handed = handed;
       starved = demo.starved;

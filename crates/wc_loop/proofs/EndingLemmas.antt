@@ -153,8 +153,8 @@ module _ (opening : Opening) where
     pub listen_fault : then ≡ ListenFault → Rose before.faults.listens after.faults.listens
     pub keeper_fault : then ≡ KeeperFault → Rose k k'
     pub asked : IsTrue after.tells → Listened contents h.turns after.asked
-    pub served : then ≡ GoOn → AllServed h.core before after
-    pub sent : then ≡ Quit → AllSent h.core before after
+    pub served : then ≡ GoOn → AllServed h before after
+    pub sent : then ≡ Quit → AllSent h before after
     pub left : 1 ≤ h.turns → IsLastState opening contents before after h
 
   at-most : (turns : ℕ) (after : Seen) (h : Headless) → h.turns ≤ turns → (IsTrue after.tells → wake_count after.taken ≡ h.turns) → WaitsAtMost turns after (kept_of h)

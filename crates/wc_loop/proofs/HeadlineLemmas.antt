@@ -9,7 +9,6 @@ use Rattle.wc_outside.specs.Seen.{Seen, IsNew}
 use Rattle.wc_outside.specs.Keyed.{at_key}
 use Rattle.wc_outside.specs.declared.happening.Asked.{Asked}
 use Rattle.wc_outside.specs.declared.happening.Asked.TheVariants.{Listen}
-use Rattle.wc_outside.specs.declared.happening.Happening.{Happening}
 use Rattle.wc_session.specs.declared.client.Client.{Client}
 use Rattle.wc_board.specs.declared.connection.Connection.{Connection}
 use Rattle.wc_core.specs.CoreView.{CoreView}
@@ -29,7 +28,10 @@ use Rattle.wc_core.specs.Served.{clients_of, state_of, Means, WereTold, sent_by,
 use Rattle.wc_turns.specs.declared.headless.Headless.{Headless}
 use Rattle.wc_turns.specs.declared.links.Closed.{Closed}
 use Rattle.wc_loop.specs.Endings.{kept_of}
-use Rattle.wc_turns.specs.Events.{events_from}
+use Rattle.wc_framing.specs.Opening.{begins}
+use Rattle.std.specs.List.{flat_map}
+use Rattle.wc_turns.specs.Events.{bytes_on, has_come, socket_on, events_from}
+use Rattle.wc_turns.specs.Heard.{Heard}
 use Rattle.wc_turns.specs.Hands.{IsFrontOf}
 use Rattle.wc_turns.specs.Links.{link_number}
 use Rattle.wc_turns.specs.Parties.{has_party, unsent_on, owed_to, asks_of, asks_in, seat_closes, IsCalm}
@@ -38,11 +40,13 @@ use Rattle.wc_loop.specs.Words.{Opening}
 use Rattle.wc_turns.specs.Served.{ReachesEvents, NobodyLeaving, closed_by, leaving_closes}
 use Rattle.wc_turns.proofs.RunLemmas.{up_to_quit-front}
 use Rattle.wc_turns.proofs.SeatCloses.{calm-seat}
-use Rattle.wc_turns.specs.Turns.{AgreesWithSockets, LoopStep, moment, point, QuitsWithin}
+use Rattle.wc_turns.specs.Turns.{AgreesWithSockets, LoopStep, moment, point, QuitsWithin, EndsEach}
 use Rattle.wc_eval.specs.Verdicts.{Oracle, Agrees}
 
 pub AgreesWithSockets-first : (first : Headless) (seen : Seen) → IsFirst first → NothingTaken seen → AgreesWithSockets first seen
 AgreesWithSockets-first first seen f new = record {
+  history = [];
+  spells = λ t. sym (new.taken t);
   among = rw (f.connections, f.links, f.used, f.listening, f.refused, f.servers) (record {
     counted = sym new.used;
     there = new.there;
@@ -65,18 +69,18 @@ AgreesWithSockets-first first seen f new = record {
   });
   told = λ t on. rw (f.clock, f.links, f.used, f.ran, f.refused, f.unlisted, new.taken t) (record {
     clock = refl;
-    tails = λ k. tt;
     fresh = λ k below. refl;
     unmade = λ k below. refl;
     stood = λ k. tt;
     unread = λ k connecting. refl;
-    events = refl;
     since = λ none. refl;
     counted = refl;
     within = omega arith;
     silent = λ none. refl;
     empty = λ none k. refl;
   });
+  hears = λ t on. rw (f.links, f.used, f.ran, new.taken t) (record { tails = λ k. tt; framed = λ k. tt; came = λ k. tt; uncome = λ k below. refl; unframed = λ k below. refl; events = refl });
+  sockets = λ t k e. absurd (false≢true (rw f.links at e));
   idle = λ none. ap (λ (s : ServersView). s.wanted) f.servers;
 }
 
@@ -206,17 +210,25 @@ first-gone k used b none one = rw (none, zero-below k one) refl
 not-gone : (k used : ℕ) (b : Bool) → b ≡ true → (nat_le k used && not b) ≡ false
 not-gone k used b there = ap (λ b. nat_le k used && not b) there ∙ and-no _
 
-reaches-from : (q q' : Bool) (n m : ℕ) (taken gained all : List Happening) (events : List Event) → q ≡ false → n ≡ 0 → taken ≡ [] → gained ≡ all → ReachesEvents q q' n m (events_from taken gained) events → ReachesEvents false q' 0 m (events_from [] all) events
-reaches-from q q' n m taken gained all events quits none nothing same h = rw (quits, none, nothing, same) at h
+reaches-from : (q q' : Bool) (n m : ℕ) (past heard all : List Heard) (events : List Event) → q ≡ false → n ≡ 0 → past ≡ [] → heard ≡ all → ReachesEvents q q' n m (events_from past heard) events → ReachesEvents false q' 0 m (events_from [] all) events
+reaches-from q q' n m past heard all events quits none nothing same h = rw (quits, none, nothing, same) at h
+
+-- no client came on the link of a server
+no-come : (t : Bool) → (t ≡ true → ⊥) → t ≡ false
+no-come true f = absurd (f refl)
+no-come false f = refl
 
 -- a loop that began with nothing, after the listener was asked for
 pub HandsOut-run : {n f : ℕ} (first last : Headless) (a b : Seen) (port : ℕ) → LoopStep false n f first last a b → IsFirst first → NothingTaken a → (IsTrue a.tells → a.asked ≡ Listen port ∷ []) → IsCalm last.core → IsTrue b.tells → last.core.starved ≡ 0 → (told : Beside) → WereTold first.core told → Agrees told.oracle last.core.verdicts
     → HandsOut (state_of first.core told) b last
+unfolding AgreesWithSockets-first
 HandsOut-run first last a b port h f new listened calm t fed rows were judged =
     let told = h.told t in
     let agrees = AgreesWithSockets-first first a f new in
     let after = h.agrees agrees in
     let gained : h.gained ≡ b.taken = sym (h.taken t ∙ ap (λ taken. taken ++ h.gained) (new.taken told)) in
+    let start : agrees.history ≡ [] = refl in
+    let all : h.heard ≡ after.history = sym (h.adds agrees ∙ ap (λ past. past ++ h.heard) start) in
     let goes = h.goes t agrees in
     let acts = (run (state_of first.core rows) goes.events).acts in
     let advances = goes.advances (fed ∙ sym f.starved) (omega (arith, f.starved)) rows were judged in
@@ -224,37 +236,42 @@ HandsOut-run first last a b port h f new listened calm t fed rows were judged =
     let rows' = (beside (run (state_of first.core rows) goes.events).state) in
     let parts = empty_parts (seat_closes last.core.servers.seats) (leaving_closes last.core.connections) calm.parted in
     let none : (k : ℕ) → a.sent k ++ unsent_on k first.core ≡ [] = λ k. ap (λ s. s ++ unsent_on k first.core) (new.sent told k) ∙ ap (λ l. client_unsent_on k l ++ server_unsent_on k first.core.servers.seats) f.connections ∙ ap (λ (s : ServersView). server_unsent_on k s.seats) f.servers in
-    let reaches = reaches-from _ _ _ _ _ _ _ _ f.quits f.ran (new.taken told) gained goes.reaches in
+    let reaches = reaches-from _ _ _ _ agrees.history h.heard after.history _ f.quits f.ran start all goes.reaches in
     let quits : last.core.quits ≡ has_end acts = advances.quits ∙ ap (λ q. q || has_end acts) f.quits in
     record {
+      history = after.history;
+      spells = after.spells t;
+      sockets = subst (λ past. EndsEach past after.history) start (subst (λ more. EndsEach agrees.history more) all goes.ends);
       events = goes.events;
       reaches = reaches;
-      ends = up_to_quit-front (state_of first.core rows) (events_from [] b.taken) goes.events reaches.rest reaches.front advances.stops (λ none. reaches.whole (quits ∙ none));
+      ends = up_to_quit-front (state_of first.core rows) (events_from [] after.history) goes.events reaches.rest reaches.front advances.stops (λ none. reaches.whole (quits ∙ none));
       silent = λ over.
           let within = goes.last (fed ∙ sym f.starved) (omega (arith, f.starved)) rows were judged f.quits over in
-          subst (λ taken. QuitsWithin taken b.taken goes.events) (new.taken told) (subst (λ more. QuitsWithin a.taken more goes.events) gained within);
+          subst (λ past. QuitsWithin past after.history goes.events) start (subst (λ more. QuitsWithin agrees.history more goes.events) all within);
       means = advances.means;
       quits = quits;
       links = λ k.
           sym (or-no _) ∙ sym (ap (λ (w : List Wanted). is_some (at_key link_number k last.links.opened.items) || is_wanted k w) calm.asked) ∙ sym (after.among.parties k)
           ∙ party-seen k last.core rows' after.among.seats.apart calm ∙ ap (has_party_in k) same;
-      opened = λ k client one there.
+      opened = λ k client one plain there.
           let here : option_map (λ s. s.session.client) (at_key connection_link k last.core.connections) ≡ Some client = sym (at_key-clients k last.core.connections parts.1) ∙ ap (λ (s : State). at_key client_link k s.clients) same ∙ there in
           let some : is_some (at_key connection_link k last.core.connections) ≡ true = some-there _ _ client here in
-          let open' : (point k (moment last b)).gone ≡ false = not-gone k last.used _ (ap (λ q. q || is_some (at_key seat_link k last.core.servers.seats)) some) in
+          let stays : (point k (moment last b)).gone ≡ false = not-gone k last.used _ (ap (λ q. q || is_some (at_key seat_link k last.core.servers.seats)) some) in
           let bare : unsent_on k last.core ≡ client_unsent_on k last.core.connections = ap (λ o. client_unsent_on k last.core.connections ++ unsent_in o) (after.among.alone k some) ∙ append-nil _ in
-          sym (ap (λ u. b.sent k ++ u) bare) ∙ (advances.hands k).stays open' ∙ ap (λ bytes. bytes ++ owed_to k acts) (none k) ∙ owed-clients k acts (advances.sides.clients k (inl some)).1;
+          sym (ap (λ u. b.sent k ++ u) bare) ∙ (advances.hands k plain).stays stays ∙ ap (λ bytes. bytes ++ owed_to k acts) (none k) ∙ owed-clients k acts (advances.sides.clients k (inl some)).1;
       served = λ k seat one there.
           let here : option_map seat_of (at_key seat_link k last.core.servers.seats) ≡ Some seat = sym (at_key-servers k last.core.servers.seats after.among.seats.apart parts.0) ∙ ap (λ (s : State). at_key server_link k s.servers) same ∙ there in
           let some : is_some (at_key seat_link k last.core.servers.seats) ≡ true = some-there _ _ seat here in
-          let open' : (point k (moment last b)).gone ≡ false = not-gone k last.used _ (ap (λ q. is_some (at_key connection_link k last.core.connections) || q) some ∙ or-yes _) in
+          let stays : (point k (moment last b)).gone ≡ false = not-gone k last.used _ (ap (λ q. is_some (at_key connection_link k last.core.connections) || q) some ∙ or-yes _) in
+          let nobody : has_come k b.taken ≡ false = ap (has_come k) (sym gained) ∙ no-come (has_come k h.gained) (λ came. (h.comes agrees k came).1 (inl some)) in
+          let plain : socket_on k b.taken ≡ false = ap (λ t. t && begins (flat_map (bytes_on k) b.taken)) nobody in
           let bare : unsent_on k last.core ≡ server_unsent_on k last.core.servers.seats = ap (λ o. client_unsent_in o ++ server_unsent_on k last.core.servers.seats) (no-client k last.core (after.among.alone k) some) in
-          sym (ap (λ u. b.sent k ++ u) bare) ∙ (advances.hands k).stays open' ∙ ap (λ bytes. bytes ++ owed_to k acts) (none k) ∙ owed-servers k acts (advances.sides.servers k (inl some)).1;
-      closed = λ k one used missing.
+          sym (ap (λ u. b.sent k ++ u) bare) ∙ (advances.hands k plain).stays stays ∙ ap (λ bytes. bytes ++ owed_to k acts) (none k) ∙ owed-servers k acts (advances.sides.servers k (inl some)).1;
+      closed = λ k one used plain missing.
           let gone' : has_party k last.core ≡ false = party-seen k last.core rows' after.among.seats.apart calm ∙ ap (has_party_in k) same ∙ missing in
           let low : nat_le k last.used ≡ true = (let c = after.among.counted in grind (arith, nat_tests)) in
           let gone : (point k (moment last b)).gone ≡ true = ap (λ q. nat_le k last.used && not q) gone' ∙ ap (λ q. q && true) low in
-          subst (λ bytes. IsFrontOf bytes (point k (moment last b))) (ap (λ bytes. bytes ++ owed_to k acts) (none k)) ((advances.hands k).closes (first-gone k first.used _ f.used one) gone);
+          subst (λ bytes. IsFrontOf bytes (point k (moment last b))) (ap (λ bytes. bytes ++ owed_to k acts) (none k)) ((advances.hands k plain).closes (first-gone k first.used _ f.used one) gone);
       port = port;
       asked =
           sym (append-nil b.asked) ∙ sym (ap (λ (w : List Wanted). b.asked ++ asks_of w) calm.asked) ∙ advances.asks ∙ ap (λ (s : ServersView). (a.asked ++ asks_of s.wanted) ++ asks_in acts) f.servers

@@ -1,5 +1,6 @@
 pub mod CutLemmas
 pub mod DemoLemmas
+pub mod DemoPlain
 pub mod OptionsLemmas
 pub mod EndingLemmas
 pub mod HeadlineLemmas

@@ -26,7 +26,8 @@ use Rattle.wc_options.specs.Options.{OptionsValue}
 use Rattle.wc_core.specs.Limits.{most_lines}
 use Rattle.wc_turns.specs.declared.headless.Headless.{Headless}
 use Rattle.wc_loop.proofs.OptionsLemmas.{limit_most}
-use Rattle.wc_turns.specs.Events.{events_of, events_from, wake_events, loss_of, refused_since, line_events, is_tick, tail_on, clock}
+use Rattle.wc_turns.specs.Events.{socket_on, tail_as, text_of_read, came_events, happening_events, end_events, events_of, events_from, wake_events, loss_of, refused_since, line_events, is_tick, clock}
+use Rattle.wc_turns.specs.Heard.{Heard, Happened, Unframed, NotPut, SocketEnd, GoesOn, Closes, Broken, happenings}
 use Rattle.wc_loop.specs.Headline.{HandsOut, ClientsHoldDumps, state_before}
 use Rattle.wc_loop.specs.Words.{Opening}
 use Rattle.wc_turns.specs.Lines.{ended_lines, without_cr, line_limit}
@@ -73,17 +74,34 @@ short-losses : (refused : List LinkId) → AllByRecursion IsShortLine (map loss_
 short-losses [] = tt
 short-losses (link ∷ refused) = (tt, short-losses refused)
 
-short-of : (before : List Happening) (h : Happening) → AllByRecursion IsShortLine (events_of before h)
-short-of before (Woke m) = short-append (wake_events (clock before) m) (map loss_of (refused_since before)) (short-wake (clock before) m) (short-losses (refused_since before))
-short-of before (Accepted link nonce) = (tt, tt)
-short-of before (Read link bytes) = short-lines link.0 (ended_lines (tail_on link.0 before) bytes)
-short-of before (Ended link) = (tt, tt)
-short-of before (Failed link) = (tt, tt)
-short-of before (Connected link) = (tt, tt)
-short-of before (Refused link) = tt
-short-of before ListenFailed = (tt, tt)
+short-came : (link : LinkId) (before : List Heard) (bytes text : List ℕ) → AllByRecursion IsShortLine (came_events link before bytes text)
+short-came link before bytes text =
+    let socket = socket_on link.0 (happenings before ++ Read link bytes ∷ []) in
+    short-lines link.0 (ended_lines (tail_as socket link.0 before) (text_of_read socket bytes text))
 
-pub short-from : (before happenings : List Happening) → AllByRecursion IsShortLine (events_from before happenings)
+short-happened : (before : List Heard) (h : Happening) → AllByRecursion IsShortLine (happening_events before h)
+short-happened before (Woke m) =
+    let taken = happenings before in
+    short-append (wake_events (clock taken) m) (map loss_of (refused_since taken)) (short-wake (clock taken) m) (short-losses (refused_since taken))
+short-happened before (Accepted link nonce) = (tt, tt)
+short-happened before (Read link bytes) = short-came link before bytes []
+short-happened before (Ended link) = (tt, tt)
+short-happened before (Failed link) = (tt, tt)
+short-happened before (Connected link) = (tt, tt)
+short-happened before (Refused link) = tt
+short-happened before ListenFailed = (tt, tt)
+
+short-end : (link : ℕ) (end : SocketEnd) → AllByRecursion IsShortLine (end_events link end)
+short-end link GoesOn = tt
+short-end link Closes = (tt, tt)
+short-end link Broken = (tt, tt)
+
+short-of : (before : List Heard) (h : Heard) → AllByRecursion IsShortLine (events_of before h)
+short-of before (Happened h) = short-happened before h
+short-of before (Unframed link bytes text end) = short-append (came_events link before bytes text) (end_events link.0 end) (short-came link before bytes text) (short-end link.0 end)
+short-of before (NotPut link) = (tt, tt)
+
+pub short-from : (before history : List Heard) → AllByRecursion IsShortLine (events_from before history)
 short-from before [] = tt
 short-from before (h ∷ hs) = short-append (events_of before h) (events_from (before ++ h ∷ []) hs) (short-of before h) (short-from (before ++ h ∷ []) hs)
 
@@ -93,23 +111,23 @@ open-client : (P : Type 0) (o : Option Client) → is_following o ≡ true → (
 open-client P None e f = absurd (false≢true e)
 open-client P (Some client) e f = f client refl
 
-shows-by : (oracle : Oracle) (commands : List (List ℕ)) (connects : Bool) (texts : AllByRecursion IsUtf8 commands) (options : OptionsValue) (limit : ℕ) (seen : Seen) (last : Headless) → limit ≤ 4096 → (handed : HandsOut (beginning oracle options limit commands connects) seen last) (which : HeldPart) (link : ℕ) (id : List ℕ) → 1 ≤ link → SettledBy which link id (beginning oracle options limit commands connects) handed.events
+shows-by : (oracle : Oracle) (commands : List (List ℕ)) (connects : Bool) (texts : AllByRecursion IsUtf8 commands) (options : OptionsValue) (limit : ℕ) (seen : Seen) (last : Headless) → limit ≤ 4096 → (handed : HandsOut (beginning oracle options limit commands connects) seen last) (which : HeldPart) (link : ℕ) (id : List ℕ) → 1 ≤ link → socket_on link seen.taken ≡ false → SettledBy which link id (beginning oracle options limit commands connects) handed.events
     → ShowsPart which limit id (seen.sent link ++ unsent_on link last.core.connections) (state_of last.core (beside (run (beginning oracle options limit commands connects) handed.events).state))
-shows-by oracle commands connects texts options limit seen last most handed which link id one settled =
+shows-by oracle commands connects texts options limit seen last most handed which link id one plain settled =
     let first = beginning oracle options limit commands connects in
     let means : State = state_of last.core (beside (run first handed.events).state) in
-    let short = short-front handed.events handed.reaches.rest (subst (AllByRecursion IsShortLine) handed.reaches.front (short-from [] seen.taken)) in
+    let short = short-front handed.events handed.reaches.rest (subst (AllByRecursion IsShortLine) handed.reaches.front (short-from [] handed.history)) in
     let shows : ShowsPart which limit id (sent_to link (run first handed.events).acts) (run first handed.events).state = part_shows which oracle options limit commands connects handed.events link id most texts short settled in
-    let bytes = open-client _ (at_key client_link link (run first handed.events).state.clients) settled.still (λ client there. handed.opened link client one there) in
+    let bytes = open-client _ (at_key client_link link (run first handed.events).state.clients) settled.still (λ client there. handed.opened link client one plain there) in
     subst (λ sent. ShowsPart which limit id sent means) (sym bytes) (subst (λ state. ShowsPart which limit id (sent_to link (run first handed.events).acts) state) handed.means.same shows)
 
 pub ClientsHoldDumps-known : (opening : Opening) → AllByRecursion IsUtf8 opening.commands → (contents : Option (List ℕ)) (seen : Seen) (last : Headless) → ClientsHoldDumps opening contents seen last
 ClientsHoldDumps-known opening texts None seen last = tt
 ClientsHoldDumps-known opening texts (Some kept) seen last = go (config_of kept)
   where
-    go : (r : Result OptionsValue ℕ) → IfOk r (λ options. (oracle : Oracle) (handed : HandsOut (state_before oracle options opening) seen last) (which : HeldPart) (link : ℕ) (id : List ℕ) → 1 ≤ link → SettledBy which link id (state_before oracle options opening) handed.events
+    go : (r : Result OptionsValue ℕ) → IfOk r (λ options. (oracle : Oracle) (handed : HandsOut (state_before oracle options opening) seen last) (which : HeldPart) (link : ℕ) (id : List ℕ) → 1 ≤ link → socket_on link seen.taken ≡ false → SettledBy which link id (state_before oracle options opening) handed.events
         → ShowsPart which (most_lines options) id (seen.sent link ++ unsent_on link last.core.connections) (state_of last.core (beside (run (state_before oracle options opening) handed.events).state)))
-    go (Ok options) = λ oracle handed which link id one settled. shows-by oracle opening.commands (not opening.holds) texts options (most_lines options) seen last (limit_most options) handed which link id one settled
+    go (Ok options) = λ oracle handed which link id one plain settled. shows-by oracle opening.commands (not opening.holds) texts options (most_lines options) seen last (limit_most options) handed which link id one plain settled
     go (Err n) = tt
 
 pub ClientsHoldDumps-last : (opening : Opening) → AllByRecursion IsUtf8 opening.commands → (contents : Option (List ℕ)) (seen : Seen) (last : Option Headless) → IfSome last (ClientsHoldDumps opening contents seen)

@@ -124,8 +124,8 @@ module _ (opening : Opening) where
     pub text : ending_text ending ≡ printed_text (shown_by wish) (is_some last) (status_of ending) (number_of ending) (counts_in ending)
     pub counted : LastOf after last
     pub left : IfSome last (IsLastState opening contents before after)
-    pub served : status_of ending ≡ 8 → IfSome last (λ last. AllServed last.core before after)
-    pub sent : status_of ending ≡ 0 → IfSome last (λ last. AllSent last.core before after)
+    pub served : status_of ending ≡ 8 → IfSome last (λ last. AllServed last before after)
+    pub sent : status_of ending ≡ 0 → IfSome last (λ last. AllSent last before after)
     pub faults : HasCause before.faults after.faults k k' (status_of ending)
     pub asked : IsTrue after.tells → IsAsked (asks_turns wish) contents (status_of ending) (is_some last) after.asked
 

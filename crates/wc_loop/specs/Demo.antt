@@ -1,6 +1,6 @@
 -- What a demo prints: what there is after a run in memory.
 use Rattle.std.specs.Prelude.{ℕ, ◌≡◌, false, List, [], ◌∷◌, ◌++◌, Option, Result, Ok, Err, IsTrue}
-use Rattle.std.specs.Prelude.{codes, decimal, max, unwrap_or}
+use Rattle.std.specs.Prelude.{codes, decimal, map, max, unwrap_or}
 use Rattle.std.specs.Io.KnownBytes.{append_known}
 use Rattle.wc_outside.specs.Seen.{Seen}
 use Rattle.wc_options.specs.Options.{fresh}
@@ -9,6 +9,7 @@ use Rattle.wc_core.specs.State.{State}
 use Rattle.wc_core.specs.Step.{run}
 use Rattle.wc_turns.specs.declared.headless.Headless.{Headless}
 use Rattle.wc_turns.specs.Events.{whole}
+use Rattle.wc_turns.specs.Heard.{Happened}
 use Rattle.wc_eval.specs.Verdicts.{Oracle, Agrees}
 use Rattle.wc_demo.specs.declared.counts.Counts.{Counts}
 use Rattle.wc_demo.specs.Counts.{counts_of}
@@ -64,8 +65,9 @@ pub record AreDemoCounts (lines : ℕ) (counts : Counts) : Type 0 where
   -- what was seen of the sockets of that run, and the state at its end
   pub seen : Seen
   pub last : Headless
-  pub are : (oracle : Oracle) → Agrees oracle last.core.verdicts →
-      counts ≡ counts_of (run (demo_state oracle) (whole (demo_taken lines))).state.world
+  -- no link of it is a WebSocket, and so what the sockets gave is all that was heard
+  pub are : (oracle : Oracle) → Agrees oracle last.core.verdicts → counts ≡ counts_of
+      (run (demo_state oracle) (whole (map Happened (demo_taken lines)))).state.world
   pub taken : seen.taken ≡ demo_taken lines
   pub handed : (oracle : Oracle) → Agrees oracle last.core.verdicts →
       HandsOut (demo_state oracle) seen last

@@ -374,9 +374,9 @@ pub record Runs (opening : Opening) (turns : ℕ) (contents : Option (List ℕ))
   pub left : IfSome last (IsLastState opening contents before after)
   -- after the last turn each source is served, and each link is written
   pub served : status_of ending ≡ 8 →
-      IfSome last (λ last. AllServed last.core before after)
+      IfSome last (λ last. AllServed last before after)
   -- after `/quit` each link is written once
-  pub sent : status_of ending ≡ 0 → IfSome last (λ last. AllSent last.core before after)
+  pub sent : status_of ending ≡ 0 → IfSome last (λ last. AllSent last before after)
   pub faults : HasCause before.faults after.faults kept kept' (status_of ending)
   pub asked : IsTrue after.tells → IsAsked true contents (status_of ending) (is_some last)
       after.asked

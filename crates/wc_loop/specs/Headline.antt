@@ -26,9 +26,10 @@ use Rattle.wc_session.specs.declared.client.Client.{Client}
 use Rattle.wc_mirror_laws.specs.Held.{HeldPart}
 use Rattle.wc_mirror_laws.specs.Bytes.{ShowsPart}
 use Rattle.wc_mirror_laws.specs.Settled.{SettledBy}
-use Rattle.wc_turns.specs.Events.{whole}
+use Rattle.wc_turns.specs.Events.{whole, socket_on}
+use Rattle.wc_turns.specs.Heard.{Heard, happenings}
 use Rattle.wc_turns.specs.Served.{ReachesEvents}
-use Rattle.wc_turns.specs.Turns.{moment, point, QuitsWithin}
+use Rattle.wc_turns.specs.Turns.{moment, point, QuitsWithin, EndsEach}
 use Rattle.wc_core.specs.State.{beside}
 use Rattle.wc_eval.specs.Verdicts.{Oracle, Agrees}
 
@@ -50,21 +51,26 @@ has_party_in link state = is_some (at_key client_link link state.clients)
     || is_some (at_key server_link link state.servers)
 
 -- The core means the state of the run over the events that were reached, from this one on; what is
--- sent and then unsent on each open link is what the run owes; what was sent on a closed link is a
--- front of that, all of it unless there was no room as it was closed, or it failed; and the sockets
--- were asked for what the run wants connected.
+-- sent and then unsent on each open link that is no WebSocket is what the run owes; what was sent on
+-- a closed one is a front of that, all of it unless there was no room as it was closed, or it failed;
+-- and the sockets were asked for what the run wants connected. The events are those of what was
+-- heard: what the sockets gave, with what the frames of WebSocket links came to.
 pub record HandsOut (first : State) (seen : Seen) (last : Headless) : Type 0 where
+  pub history : List Heard
+  pub spells : happenings history ≡ seen.taken
   pub events : List Event
-  pub reaches : ReachesEvents false last.core.quits 0 last.ran (whole seen.taken) events
+  pub reaches : ReachesEvents false last.core.quits 0 last.ran (whole history) events
+  -- a WebSocket link ends as its bytes have it
+  pub sockets : EndsEach [] history
   -- they are all events, or end with the one that ran `/quit`
-  pub ends : events ≡ up_to_quit first (whole seen.taken)
+  pub ends : events ≡ up_to_quit first (whole history)
   -- after that one nothing is read, and no client comes
-  pub silent : last.core.quits ≡ true → QuitsWithin [] seen.taken events
+  pub silent : last.core.quits ≡ true → QuitsWithin [] history events
   pub means : Means last.core (run first events).state
   pub quits : last.core.quits ≡ has_end (run first events).acts
   pub links : (link : ℕ) → is_some (at_key link_number link last.links.opened.items)
       ≡ has_party_in link (run first events).state
-  pub opened : (link : ℕ) (client : Client) → 1 ≤ link →
+  pub opened : (link : ℕ) (client : Client) → 1 ≤ link → socket_on link seen.taken ≡ false →
       at_key client_link link (run first events).state.clients ≡ Some client
       → seen.sent link ++ unsent_on link last.core.connections
       ≡ sent_to link (run first events).acts
@@ -72,7 +78,7 @@ pub record HandsOut (first : State) (seen : Seen) (last : Headless) : Type 0 whe
       at_key server_link link (run first events).state.servers ≡ Some seat
       → seen.sent link ++ server_unsent_on link last.core.servers.seats
       ≡ lines_to link (outs_of (run first events).acts)
-  pub closed : (link : ℕ) → 1 ≤ link → link ≤ seen.used →
+  pub closed : (link : ℕ) → 1 ≤ link → link ≤ seen.used → socket_on link seen.taken ≡ false →
       has_party_in link (run first events).state ≡ false
       → IsFrontOf (owed_to link (run first events).acts) (point link (moment last seen))
   -- what was asked for is the listener, and then what the run wants connected
@@ -88,15 +94,15 @@ Headline opening contents seen last =
     (oracle : Oracle) → Agrees oracle last.core.verdicts →
     HandsOut (state_before oracle options opening) seen last))
 
--- Where that is so, each client that settled by the dump of a part, the lines of all buffers, the
--- buffers in their groups or the nicklists, has exactly this part of what the core holds, by the
--- bytes that were sent to it and those that are unsent. Of nicklists it has the rows that the run
--- last told, which the core knows by what was touched since then.
+-- Where that is so, each client whose link is no WebSocket and that settled by the dump of a part,
+-- the lines of all buffers, the buffers in their groups or the nicklists, has exactly this part of
+-- what the core holds, by the bytes that were sent to it and those that are unsent. Of nicklists it
+-- has the rows that the run last told, which the core knows by what was touched since then.
 abbrev pub ClientsHoldDumps : Opening → Option (List ℕ) → Seen → Headless → Type 0
 ClientsHoldDumps opening contents seen last =
     IfSome contents (λ configuration. IfOk (config_of configuration) (λ options.
     (oracle : Oracle) (handed : HandsOut (state_before oracle options opening) seen last) (which : HeldPart)
-    (link : ℕ) (id : List ℕ) → 1 ≤ link →
+    (link : ℕ) (id : List ℕ) → 1 ≤ link → socket_on link seen.taken ≡ false →
     SettledBy which link id (state_before oracle options opening) handed.events
     → ShowsPart which (most_lines options) id (seen.sent link ++ unsent_on link last.core.connections)
     (state_of last.core

@@ -175,10 +175,10 @@ pub fn run_program<S: Sockets, K: Keeper, O: Sink>(
         (opening_of (map string_bytes words.now.items)) (K.contents keeper.old)
         (S.seen sockets.old) (S.seen sockets.new)) }
     ensures served { result.status ≡ 8 →
-        IfSome result.last (λ last. AllServed last.core (S.seen sockets.old)
+        IfSome result.last (λ last. AllServed last (S.seen sockets.old)
         (S.seen sockets.new)) }
     ensures sent { result.status ≡ 0 →
-        IfSome result.last (λ last. AllSent last.core (S.seen sockets.old)
+        IfSome result.last (λ last. AllSent last (S.seen sockets.old)
         (S.seen sockets.new)) }
     ensures faults { HasCause (S.seen sockets.old).faults (S.seen sockets.new).faults
         (K.faults keeper.old) (K.faults keeper.new) result.status }

@@ -131,9 +131,9 @@ fn take_turns<S: Sockets, K: Keeper>(
     ensures calm { IsCalm headless.new.core }
     ensures causes { 1 ≤ headless.new.turns → LastTurn headless.old headless.new
         (S.seen sockets.old) (S.seen sockets.new) }
-    ensures served { result ≡ TurnEnd.GoOn → 1 ≤ turns → AllServed headless.new.core
+    ensures served { result ≡ TurnEnd.GoOn → 1 ≤ turns → AllServed headless.new
         (S.seen sockets.old) (S.seen sockets.new) }
-    ensures sent { result ≡ TurnEnd.Quit → AllSent headless.new.core
+    ensures sent { result ≡ TurnEnd.Quit → AllSent headless.new
         (S.seen sockets.old) (S.seen sockets.new) }
     ensures quit { result ≡ TurnEnd.Quit → headless.new.core.quits ≡ true }
     ensures going { result ≢ TurnEnd.Quit → result ≢ TurnEnd.ListenFault →

@@ -20,7 +20,7 @@ use Rattle.wc_session.specs.declared.outcome.Outcome.{Outcome}
 use Rattle.wc_session.specs.declared.outcome.Outcome.TheVariants as outcome
 use Rattle.wc_session.specs.Reply.{reply_of}
 use Rattle.wc_session.specs.Sending.{spelling}
-use Rattle.wc_core.specs.Events.{Event, Start, Tick, Arrives, Line as LineCame, Stands, Ends, Fails, ListenFails}
+use Rattle.wc_core.specs.Events.{Event, Start, Tick, Arrives, Line as LineCame, Stands, Ends, Fails, Breaks, ListenFails}
 use Rattle.wc_core.specs.State.{State, Stepped}
 use Rattle.wc_servers.specs.Seats.{server_link}
 use Rattle.wc_core.specs.Limits.{client_limit}
@@ -88,6 +88,7 @@ step_spelt limit link state (LineCame k line) kept = line_spelt limit link state
 step_spelt limit link state (Stands k) kept = (Tells-stands Lines limit link [] tt state k (at_key server_link k state.servers) kept).spelt
 step_spelt limit link state (Ends k) kept = lost_spelt limit link state k cause.Ended (at_key client_link k state.clients) kept
 step_spelt limit link state (Fails k) kept = lost_spelt limit link state k cause.Failed (at_key client_link k state.clients) kept
+step_spelt limit link state (Breaks k) kept = lost_spelt limit link state k cause.BadSocket (at_key client_link k state.clients) kept
 step_spelt limit link state ListenFails kept = tt
 
 spelt_on : (limit link : ℕ) (state : State) (events : List Event) → IsStateKept limit link state → AllSpelt (messages_to link (run state events).acts)

@@ -10,7 +10,7 @@ use Rattle.wc_relaycmd.specs.Answers.{request_of}
 use Rattle.wc_text.specs.Splits.{BeginsWithout}
 use Rattle.wc_session.specs.declared.client.Client.{Client}
 use Rattle.wc_session.specs.Reply.{reply_of}
-use Rattle.wc_core.specs.Events.{Event, Start, Tick, Arrives, Line as LineCame, Stands, Ends, Fails, ListenFails}
+use Rattle.wc_core.specs.Events.{Event, Start, Tick, Arrives, Line as LineCame, Stands, Ends, Fails, Breaks, ListenFails}
 use Rattle.wc_core.specs.State.{State, Stepped}
 use Rattle.wc_servers.specs.Seats.{server_link}
 use Rattle.wc_core.specs.Limits.{client_limit}
@@ -61,6 +61,7 @@ asked_one link state (LineCame k line) first others e = by (eqb k link) e where
 asked_one link state (Stands k) first others e = absurd (let h = e in cc)
 asked_one link state (Ends k) first others e = absurd (let h = e in cc)
 asked_one link state (Fails k) first others e = absurd (let h = e in cc)
+asked_one link state (Breaks k) first others e = absurd (let h = e in cc)
 asked_one link state ListenFails first others e = absurd (let h = e in cc)
 
 -- ---- a line of a client
@@ -148,6 +149,7 @@ step_mirrors which limit link id state (Stands k) part kept free within fair aft
     tells.right (sym tells.following ∙ after) part had
 step_mirrors which limit link id state (Ends k) part kept free within fair after had = lost_right which limit link id state k cause.Ended (at_key client_link k state.clients) part kept free after had
 step_mirrors which limit link id state (Fails k) part kept free within fair after had = lost_right which limit link id state k cause.Failed (at_key client_link k state.clients) part kept free after had
+step_mirrors which limit link id state (Breaks k) part kept free within fair after had = lost_right which limit link id state k cause.BadSocket (at_key client_link k state.clients) part kept free after had
 step_mirrors which limit link id state ListenFails part kept free within fair after had = had
 
 -- ---- the dump
@@ -197,4 +199,5 @@ dump_mirrors which limit link id state (LineCame k line) part dump kept within e
 dump_mirrors which limit link id state (Stands k) part dump kept within e takes after = absurd (let h = e in cc)
 dump_mirrors which limit link id state (Ends k) part dump kept within e takes after = absurd (let h = e in cc)
 dump_mirrors which limit link id state (Fails k) part dump kept within e takes after = absurd (let h = e in cc)
+dump_mirrors which limit link id state (Breaks k) part dump kept within e takes after = absurd (let h = e in cc)
 dump_mirrors which limit link id state ListenFails part dump kept within e takes after = absurd (let h = e in cc)

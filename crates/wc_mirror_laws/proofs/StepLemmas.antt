@@ -17,7 +17,7 @@ use Rattle.wc_session.specs.declared.outcome.Outcome.{Outcome}
 use Rattle.wc_session.specs.declared.outcome.Outcome.TheVariants as outcome
 use Rattle.wc_session.specs.Known.{new_client}
 use Rattle.wc_session.specs.Reply.{Answer, reply_of}
-use Rattle.wc_core.specs.Events.{Event, Start, Tick, Arrives, Line as LineCame, Stands, Ends, Fails, ListenFails}
+use Rattle.wc_core.specs.Events.{Event, Start, Tick, Arrives, Line as LineCame, Stands, Ends, Fails, Breaks, ListenFails}
 use Rattle.wc_core.specs.State.{State, Stepped, Closes}
 use Rattle.wc_servers.specs.Seats.{server_link}
 use Rattle.wc_core.specs.Limits.{client_limit}
@@ -151,6 +151,7 @@ step_keeps limit link state (LineCame k line) kept = kept-line limit link state 
 step_keeps limit link state (Stands k) kept = (Tells-stands Lines limit link [] tt state k (at_key server_link k state.servers) kept).kept
 step_keeps limit link state (Ends k) kept = kept-lost limit link state k cause.Ended (at_key client_link k state.clients) kept
 step_keeps limit link state (Fails k) kept = kept-lost limit link state k cause.Failed (at_key client_link k state.clients) kept
+step_keeps limit link state (Breaks k) kept = kept-lost limit link state k cause.BadSocket (at_key client_link k state.clients) kept
 step_keeps limit link state ListenFails kept = kept
 
 -- ---- whether a client followed before an event
@@ -223,4 +224,5 @@ followed limit link state (LineCame k line) kept none after = following-line lim
 followed limit link state (Stands k) kept none after = sym (Tells-stands Lines limit link [] tt state k (at_key server_link k state.servers) kept).following ∙ after
 followed limit link state (Ends k) kept none after = following-lost limit link state k cause.Ended (at_key client_link k state.clients) kept after
 followed limit link state (Fails k) kept none after = following-lost limit link state k cause.Failed (at_key client_link k state.clients) kept after
+followed limit link state (Breaks k) kept none after = following-lost limit link state k cause.BadSocket (at_key client_link k state.clients) kept after
 followed limit link state ListenFails kept none after = after

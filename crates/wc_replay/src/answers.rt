@@ -113,6 +113,7 @@ impl<'a> Answers<'a> {
     /// Compares the next message of a link as a line asks:
     ///
     /// - `expect 1 BYTES`: it is these bytes;
+    /// - `bytes 1 BYTES`: the next bytes, as many as these, are these;
     /// - `message 1 ID BYTES`: it has this id, which `-` is none, and its objects are these bytes;
     /// - `any 1 ID`: it has this id.
     ///
@@ -130,6 +131,7 @@ impl<'a> Answers<'a> {
             "" | "#" => Ok(()),
             "name" => forms.define(rest),
             "expect" => self.expect(out, forms, rest),
+            "bytes" => self.expect_bytes(out, forms, rest),
             "line" => self.expect_line(out, forms, rest),
             "message" => self.expect_message(out, forms, rest),
             "any" => self.expect_id(out, rest),
@@ -142,6 +144,16 @@ impl<'a> Answers<'a> {
         let (link, text) = on_link(rest)?;
         let wanted = forms.spell(text)?;
         let came = self.next(link);
+        Ok(judge(out, came == wanted.as_slice(), came)?)
+    }
+
+    /// The next bytes are these, whatever messages they are of.
+    fn expect_bytes(&mut self, out: &mut String, forms: &Forms, rest: &str) -> Result<(), Wrong> {
+        let (link, text) = on_link(rest)?;
+        let wanted = forms.spell(text)?;
+        let unnamed = self.rest_of_link(link);
+        let came = unnamed.get(..wanted.as_slice().len()).unwrap_or(unnamed);
+        self.name(link, came.len());
         Ok(judge(out, came == wanted.as_slice(), came)?)
     }
 

@@ -1,4 +1,5 @@
 use crate::escapes::add_unescaped;
+use crate::frames::{add_frame, first_byte};
 use crate::wrong::Wrong;
 use std::alloc::Global;
 use wc_text::{Items, Pair, Text};
@@ -44,20 +45,15 @@ fn add_short(bytes: &mut Text, text: &[u8]) -> Result<(), Wrong> {
     Ok(bytes.append(text)?)
 }
 
-/// Adds a text so many times.
-fn add_times(bytes: &mut Text, times: u64, text: &[u8]) -> Result<(), Wrong> {
-    for _ in 0..times {
-        bytes.append(text)?;
-    }
-    Ok(())
-}
-
-/// Adds a text so many times, as in `65537:p`.
+/// Adds the bytes that a text spells so many times, as in `65537:p`.
 fn add_many(bytes: &mut Text, value: &str) -> Result<(), Wrong> {
     let Some((times, text)) = value.split_once(':') else {
         return Err(Wrong::Form);
     };
-    add_times(bytes, number(times)?, text.as_bytes())
+    for _ in 0..number(times)? {
+        add_unescaped(bytes, text.as_bytes())?;
+    }
+    Ok(())
 }
 
 /// Adds the bytes of a form of this kind, whose value spells a text.
@@ -67,7 +63,7 @@ fn add_kind(bytes: &mut Text, kind: &str, value: &str, text: &[u8]) -> Result<()
         "ptr" | "tim" | "lon" => add_short(bytes, text),
         "int" => add_int(bytes, value),
         "many" => add_many(bytes, value),
-        _ => Err(Wrong::Form),
+        _ => add_frame(bytes, first_byte(kind)?, text),
     }
 }
 
@@ -113,8 +109,18 @@ impl Forms {
         let Some((kind, value)) = form.split_once(':') else {
             return self.add_named(bytes, form);
         };
+        if kind == "text_many" {
+            return self.add_lines(bytes, value);
+        }
         let text = self.unescape(value)?;
         add_kind(bytes, kind, value, text.as_slice())
+    }
+
+    /// Adds a frame whose payload is a text so many times.
+    fn add_lines(&self, bytes: &mut Text, value: &str) -> Result<(), Wrong> {
+        let mut text = Text::new(self.alloc);
+        add_many(&mut text, value)?;
+        add_frame(bytes, first_byte("text")?, text.as_slice())
     }
 
     /// Adds the bytes of a form and of the text after it, as in `int:5}text`.
@@ -129,7 +135,9 @@ impl Forms {
     /// Adds the bytes that a text spells, in which there are escapes, and these forms: `{str:TEXT}`
     /// is the text after its length in four bytes; `{ptr:TEXT}`, `{tim:TEXT}` and `{lon:TEXT}` have
     /// it in one; `{int:NUMBER}` is the number in four bytes; `{many:NUMBER:TEXT}` repeats a text;
-    /// and `{NAME}` has the bytes of that name.
+    /// `{NAME}` has the bytes of that name; `{text:TEXT}`, `{binary:TEXT}` and others that
+    /// `first_byte` has are frames of a WebSocket client, and `{text_many:NUMBER:TEXT}` is one that
+    /// repeats a text.
     pub fn add_spelled(&self, bytes: &mut Text, text: &str) -> Result<(), Wrong> {
         for (place, part) in text.split('{').enumerate() {
             let added = if place == 0 {

@@ -10,6 +10,7 @@
 mod answers;
 mod escapes;
 mod forms;
+mod frames;
 mod keeper;
 mod play;
 mod stage;

@@ -63,4 +63,6 @@ pub enum Cause {
     Disconnected,
     /// Each nick of a server was taken.
     NickTaken,
+    /// Its head or its frames were no WebSocket, or a message could not be framed.
+    BadSocket,
 }

@@ -11,21 +11,17 @@ use Rattle.wc_outside.specs.declared.happening.Happening.{Happening}
 use Rattle.wc_outside.specs.declared.happening.Happening.TheVariants.{Woke, Accepted, Read, Ended, Failed, Connected, Refused, ListenFailed}
 use Rattle.wc_turns.specs.declared.links.LinkState.{LinkState}
 use Rattle.wc_outside.specs.Keyed.{at_key, put_at, without, IsKeyPlace}
-use Rattle.wc_turns.specs.Lines.{rest}
 use Rattle.wc_turns.specs.Links.{Kind, link_number, is_connecting, kind_of, changed_at, standing_state}
-use Rattle.wc_turns.specs.Events.{bytes_on, tail_on, stands_at, has_stood, clock, clock_from, is_tick, refused_from, refused_since, events_of, whole, read_events}
-use Rattle.wc_turns.specs.Tails.{IsTail}
-use Rattle.wc_turns.specs.Steps.{SameTails, SameKinds}
+use Rattle.wc_turns.specs.Events.{bytes_on, stands_at, has_stood, clock, clock_from, is_tick, refused_from, refused_since, woke_events}
+use Rattle.wc_turns.specs.Steps.{SameKinds}
 use Rattle.wc_turns.specs.Turns.{AgreesWithHappenings}
 use Rattle.wc_turns.proofs.KeyedLemmas.{at_key-key, at_key-put_other, at_key-put_same, at_key-filter_other, at_key-filter_same, none_of, same-keys, or-false}
-use Rattle.wc_turns.proofs.ChangedLemmas.{changed, at_key-changed, keeps-standing, SameTails-changed}
-use Rattle.wc_turns.proofs.LineLemmas.{rest-append}
-use Rattle.wc_turns.proofs.RunLemmas.{events_from-push}
+use Rattle.wc_turns.proofs.ChangedLemmas.{changed, at_key-changed, keeps-standing}
 
-text-push : (k : ℕ) (taken : List Happening) (h : Happening) → flat_map (bytes_on k) (taken ++ h ∷ []) ≡ flat_map (bytes_on k) taken ++ bytes_on k h
+pub text-push : (k : ℕ) (taken : List Happening) (h : Happening) → flat_map (bytes_on k) (taken ++ h ∷ []) ≡ flat_map (bytes_on k) taken ++ bytes_on k h
 text-push k taken h = flat_map-append (bytes_on k) taken (h ∷ []) ∙ ap (λ bytes. flat_map (bytes_on k) taken ++ bytes) (append-nil (bytes_on k h))
 
-text-quiet : (k : ℕ) (taken : List Happening) (h : Happening) → bytes_on k h ≡ [] → flat_map (bytes_on k) (taken ++ h ∷ []) ≡ flat_map (bytes_on k) taken
+pub text-quiet : (k : ℕ) (taken : List Happening) (h : Happening) → bytes_on k h ≡ [] → flat_map (bytes_on k) (taken ++ h ∷ []) ≡ flat_map (bytes_on k) taken
 text-quiet k taken h e = text-push k taken h ∙ ap (λ bytes. flat_map (bytes_on k) taken ++ bytes) e ∙ append-nil (flat_map (bytes_on k) taken)
 
 stood-push : (k : ℕ) (taken : List Happening) (h : Happening) → has_stood k (taken ++ h ∷ []) ≡ (has_stood k taken || stands_at k h)
@@ -42,17 +38,11 @@ stood-quiet k taken h e = stood-push k taken h ∙ ap (λ b. has_stood k taken |
 abbrev KeptAs : Bool → Option LinkState → Type 0
 KeptAs told o = IfSome o (λ state. state.connecting ≡ (is_some state.server && not told))
 
-tail_on-quiet : (k : ℕ) (taken : List Happening) (h : Happening) → bytes_on k h ≡ [] → tail_on k (taken ++ h ∷ []) ≡ tail_on k taken
-tail_on-quiet k taken h e = ap (rest []) (text-quiet k taken h e)
-
-bytes_on-read : (link : LinkId) (bytes : List ℕ) → bytes_on link.0 (Read link bytes) ≡ bytes
+pub bytes_on-read : (link : LinkId) (bytes : List ℕ) → bytes_on link.0 (Read link bytes) ≡ bytes
 bytes_on-read link bytes = grind (arith, nat_tests)
 
-bytes_on-other : (link : LinkId) (k : ℕ) (bytes : List ℕ) → k ≢ link.0 → bytes_on k (Read link bytes) ≡ []
+pub bytes_on-other : (link : LinkId) (k : ℕ) (bytes : List ℕ) → k ≢ link.0 → bytes_on k (Read link bytes) ≡ []
 bytes_on-other link k bytes n = grind (arith, nat_tests)
-
-pub tail_on-read : (link : LinkId) (taken : List Happening) (bytes : List ℕ) → tail_on link.0 (taken ++ Read link bytes ∷ []) ≡ rest (tail_on link.0 taken) bytes
-tail_on-read link taken bytes = ap (rest []) (text-push link.0 taken (Read link bytes)) ∙ rest-append [] (flat_map (bytes_on link.0) taken) (bytes_on link.0 (Read link bytes)) ∙ ap (rest (tail_on link.0 taken)) (bytes_on-read link bytes)
 
 -- what the clock shows after one more happening
 clock-push : (last : Option ℕ) (taken : List Happening) (h : Happening) → clock_from last (taken ++ h ∷ []) ≡ clock_from (clock_from last taken) (h ∷ [])
@@ -126,43 +116,35 @@ KeepsRefused h = (refused : List LinkId) → refused_from refused (h ∷ []) ≡
 since-kept : (taken : List Happening) (h : Happening) → KeepsRefused h → refused_since (taken ++ h ∷ []) ≡ refused_since taken
 since-kept taken h keeps = refused-push [] taken h ∙ keeps (refused_since taken)
 
--- how many events are reached after one more happening
-events-more : (ran ran' : ℕ) (taken : List Happening) (h : Happening) → ran ≡ min (length (whole taken)) (2 ^ 64 - 1) → ran' ≡ min (ran + length (events_of taken h)) (2 ^ 64 - 1) → ran' ≡ min (length (whole (taken ++ h ∷ []))) (2 ^ 64 - 1)
-events-more ran ran' taken h e f = let l = ap length (events_from-push [] taken h) in let m = length-append (whole taken) (events_of taken h) in omega arith
-
 -- where no event is reached after one more happening, none was before, and it has none
-none-before : (ran ran' n : ℕ) → ran' ≡ min (ran + n) (2 ^ 64 - 1) → ran' ≡ 0 → (ran ≡ 0) × (n ≡ 0)
+pub none-before : (ran ran' n : ℕ) → ran' ≡ min (ran + n) (2 ^ 64 - 1) → ran' ≡ 0 → (ran ≡ 0) × (n ≡ 0)
 none-before ran ran' n e z = (omega arith, omega arith)
 
 -- a happening without bytes, at which the clock stays
-pub For-quiet : (clocked : Option ℕ) (states : List LinkState) (used ran ran' : ℕ) (refused : List LinkId) (unlisted : ℕ) (taken : List Happening) (h : Happening) → ((k : ℕ) → bytes_on k h ≡ []) → IsTimeless h → KeepsRefused h → IsUnstanding h → 1 ≤ length (events_of taken h) → ran' ≡ min (ran + length (events_of taken h)) (2 ^ 64 - 1)
+pub For-quiet : (clocked : Option ℕ) (states : List LinkState) (used ran ran' : ℕ) (refused : List LinkId) (unlisted : ℕ) (taken : List Happening) (h : Happening) (n : ℕ) → ((k : ℕ) → bytes_on k h ≡ []) → IsTimeless h → KeepsRefused h → IsUnstanding h → 1 ≤ n → ran' ≡ min (ran + n) (2 ^ 64 - 1)
     → AgreesWithHappenings clocked states used ran refused unlisted taken → AgreesWithHappenings clocked states used ran' refused unlisted (taken ++ h ∷ [])
-For-quiet clocked states used ran ran' refused unlisted taken h q timeless keeps u some count s = record {
+For-quiet clocked states used ran ran' refused unlisted taken h n q timeless keeps u some count s = record {
   clock = s.clock ∙ sym (clock-push None taken h ∙ timeless (clock taken));
-  tails = λ k. rw (tail_on-quiet k taken h (q k)) (s.tails k);
   fresh = λ k l. text-quiet k taken h (q k) ∙ s.fresh k l;
   unmade = λ k l. stood-quiet k taken h (u k) ∙ s.unmade k l;
   stood = λ k. rw (stood-quiet k taken h (u k)) (s.stood k);
   unread = λ k c. text-quiet k taken h (q k) ∙ s.unread k c;
-  events = events-more ran ran' taken h s.events count;
   since = λ z. s.since z ∙ sym (since-kept taken h keeps);
   counted = s.counted ∙ ap length (sym (since-kept taken h keeps));
   within = s.within;
-  silent = λ z. absurd (let p = none-before ran ran' (length (events_of taken h)) count z in let n = p.1 in omega arith);
-  empty = λ z. absurd (let p = none-before ran ran' (length (events_of taken h)) count z in let n = p.1 in omega arith);
+  silent = λ z. absurd (let p = none-before ran ran' n count z in let m = p.1 in omega arith);
+  empty = λ z. absurd (let p = none-before ran ran' n count z in let m = p.1 in omega arith);
 }
 
 -- a wait returned
-pub For-woke : (clocked : Option ℕ) (states : List LinkState) (used ran ran' moment : ℕ) (refused : List LinkId) (unlisted : ℕ) (taken : List Happening) → ran' ≡ min (ran + length (events_of taken (Woke moment))) (2 ^ 64 - 1)
+pub For-woke : (clocked : Option ℕ) (states : List LinkState) (used ran ran' moment : ℕ) (refused : List LinkId) (unlisted : ℕ) (taken : List Happening) → ran' ≡ min (ran + length (woke_events taken moment)) (2 ^ 64 - 1)
     → AgreesWithHappenings clocked states used ran refused unlisted taken → AgreesWithHappenings (clock_from clocked (Woke moment ∷ [])) states used ran' [] 0 (taken ++ Woke moment ∷ [])
 For-woke clocked states used ran ran' moment refused unlisted taken count s = record {
   clock = ap (λ c. clock_from c (Woke moment ∷ [])) s.clock ∙ sym (clock-push None taken (Woke moment));
-  tails = λ k. rw (tail_on-quiet k taken (Woke moment) refl) (s.tails k);
   fresh = λ k l. text-quiet k taken (Woke moment) refl ∙ s.fresh k l;
   unmade = λ k l. stood-quiet k taken (Woke moment) refl ∙ s.unmade k l;
   stood = λ k. rw (stood-quiet k taken (Woke moment) refl) (s.stood k);
   unread = λ k c. text-quiet k taken (Woke moment) refl ∙ s.unread k c;
-  events = events-more ran ran' taken (Woke moment) s.events count;
   since = λ z. sym (refused-push [] taken (Woke moment));
   counted = ap length (sym (refused-push [] taken (Woke moment)));
   within = omega arith;
@@ -172,9 +154,9 @@ For-woke clocked states used ran ran' moment refused unlisted taken count s = re
   -- the first wait that returns is the start, and later ones come after it
   begun : ran' ≡ 0 → ⊥
   begun z =
-      let p = none-before ran ran' (length (events_of taken (Woke moment))) count z in
+      let p = none-before ran ran' (length (woke_events taken moment)) count z in
       let none = p.1 in
-      let start : length (events_of taken (Woke moment)) ≡ 1 = ap (λ ts. length (events_of ts (Woke moment))) (s.silent p.0) in
+      let start : length (woke_events taken moment) ≡ 1 = ap (λ ts. length (woke_events ts moment)) (s.silent p.0) in
       omega arith
 
 abbrev connecting_of : Option Kind → Bool
@@ -209,8 +191,8 @@ connecting-or : (o o' : Option LinkState) → (o' ≡ None) ⊎ (kind_of o' ≡ 
 connecting-or o o' (inl e) c = absurd (false≢true (sym (ap is_connecting e) ∙ c))
 connecting-or o o' (inr e) c = connecting-as o o' e c
 
-pub For-states : (clocked : Option ℕ) (states states' : List LinkState) (used ran : ℕ) (refused : List LinkId) (unlisted : ℕ) (taken : List Happening) → SameTails states states' → SameKinds states states' → ((k : ℕ) → at_key link_number k states ≡ None → at_key link_number k states' ≡ None) → AgreesWithHappenings clocked states used ran refused unlisted taken → AgreesWithHappenings clocked states' used ran refused unlisted taken
-For-states clocked states states' used ran refused unlisted taken same kinds missing s = record { unmade = s.unmade; stood = λ k. kept-or (has_stood k taken) (at_key link_number k states) (at_key link_number k states') (kinds k) (s.stood k); unread = λ k c. s.unread k (connecting-or (at_key link_number k states) (at_key link_number k states') (kinds k) c); clock = s.clock; tails = λ k. same k (tail_on k taken) (s.tails k); fresh = s.fresh; events = s.events; since = s.since; counted = s.counted; within = s.within; silent = s.silent; empty = λ z k. missing k (s.empty z k) }
+pub For-states : (clocked : Option ℕ) (states states' : List LinkState) (used ran : ℕ) (refused : List LinkId) (unlisted : ℕ) (taken : List Happening) → SameKinds states states' → ((k : ℕ) → at_key link_number k states ≡ None → at_key link_number k states' ≡ None) → AgreesWithHappenings clocked states used ran refused unlisted taken → AgreesWithHappenings clocked states' used ran refused unlisted taken
+For-states clocked states states' used ran refused unlisted taken kinds missing s = record { unmade = s.unmade; stood = λ k. kept-or (has_stood k taken) (at_key link_number k states) (at_key link_number k states') (kinds k) (s.stood k); unread = λ k c. s.unread k (connecting-or (at_key link_number k states) (at_key link_number k states') (kinds k) c); clock = s.clock; fresh = s.fresh; since = s.since; counted = s.counted; within = s.within; silent = s.silent; empty = λ z k. missing k (s.empty z k) }
 
 -- the same links are there
 pub missing-as : (states states' : List LinkState) → map link_number states' ≡ map link_number states → (k : ℕ) → at_key link_number k states ≡ None → at_key link_number k states' ≡ None
@@ -220,13 +202,6 @@ pub IfSome-None : {X : Type 0} (o : Option X) (P : X → Type 0) → o ≡ None 
 IfSome-None None P e = tt
 IfSome-None (Some x) P e = absurd (let q : Some x ≡ None = e in cc)
 
-without-by : (j k : ℕ) (b : Bool) → eqb k j ≡ b → (states : List LinkState) (line : List ℕ) → IfSome (at_key link_number k states) (λ state. IsTail line state.tail) → IfSome (at_key link_number k (without link_number j states)) (λ state. IsTail line state.tail)
-without-by j k true e states line h = let same : j ≡ k = grind (arith, nat_tests) in IfSome-None _ _ (subst (λ i. at_key link_number k (without link_number i states) ≡ None) (sym same) (at_key-filter_same link_number k states))
-without-by j k false e states line h = let other : k ≢ j = λ q. grind (arith, nat_tests) in rw (at_key-filter_other link_number j k states other) h
-
-pub SameTails-without : (j : ℕ) (states : List LinkState) → SameTails states (without link_number j states)
-SameTails-without j states = λ k line h. without-by j k (eqb k j) refl states line h
-
 same-kind-by : (j k : ℕ) (b : Bool) → eqb k j ≡ b → (states : List LinkState) → (at_key link_number k (without link_number j states) ≡ None) ⊎ (kind_of (at_key link_number k (without link_number j states)) ≡ kind_of (at_key link_number k states))
 same-kind-by j k true e states = let same : j ≡ k = grind (arith, nat_tests) in inl (subst (λ i. at_key link_number k (without link_number i states) ≡ None) (sym same) (at_key-filter_same link_number k states))
 same-kind-by j k false e states = let other : k ≢ j = λ q. grind (arith, nat_tests) in inr (ap kind_of (at_key-filter_other link_number j k states other))
@@ -234,44 +209,50 @@ same-kind-by j k false e states = let other : k ≢ j = λ q. grind (arith, nat_
 pub SameKinds-without : (j : ℕ) (states : List LinkState) → SameKinds states (without link_number j states)
 SameKinds-without j states = λ k. same-kind-by j k (eqb k j) refl states
 
--- bytes are read on the link of a place
-read-tails : (link : LinkId) (k : ℕ) (b : Bool) → eqb k link.0 ≡ b → (taken : List Happening) (states : List LinkState) (old new : LinkState) (bytes : List ℕ) → at_key link_number link.0 states ≡ Some old → link_number new ≡ link.0
-    → IsTail (rest (tail_on link.0 taken) bytes) new.tail → IfSome (at_key link_number k states) (λ state. IsTail (tail_on k taken) state.tail)
-    → IfSome (at_key link_number k (put_at link_number link.0 new states)) (λ state. IsTail (tail_on k (taken ++ Read link bytes ∷ [])) state.tail)
-read-tails link k true e taken states old new bytes found key t h =
-    let same : link.0 ≡ k = grind (arith, nat_tests) in
-    subst (λ n. IfSome (at_key link_number n (put_at link_number link.0 new states)) (λ state. IsTail (tail_on n (taken ++ Read link bytes ∷ [])) state.tail)) same
-    (rw (at_key-put_same link_number link.0 old new states key found, tail_on-read link taken bytes) t)
-read-tails link k false e taken states old new bytes found key t h =
-    let n : k ≢ link.0 = λ q. grind (arith, nat_tests) in
-    rw (at_key-put_other link_number link.0 k new states key n, tail_on-quiet k taken (Read link bytes) (bytes_on-other link k bytes n)) h
+-- one more event was reached, at which nothing happened
+pub For-reached : (clocked : Option ℕ) (states : List LinkState) (used ran ran' : ℕ) (refused : List LinkId) (unlisted : ℕ) (taken : List Happening) → (ran' ≡ 0 → ⊥) → AgreesWithHappenings clocked states used ran refused unlisted taken → AgreesWithHappenings clocked states used ran' refused unlisted taken
+For-reached clocked states used ran ran' refused unlisted taken some s = record {
+  clock = s.clock;
+  fresh = s.fresh;
+  unmade = s.unmade;
+  stood = s.stood;
+  unread = s.unread;
+  since = s.since;
+  counted = s.counted;
+  within = s.within;
+  silent = λ z. absurd (some z);
+  empty = λ z. absurd (some z);
+}
 
--- a link of the same kind takes the place of one
-kept-put : (k : ℕ) (told t : Bool) (j : ℕ) → eqb k j ≡ t → (states : List LinkState) (old new : LinkState) → at_key link_number j states ≡ Some old → link_number new ≡ j → kind_of (Some new) ≡ kind_of (Some old) → KeptAs told (at_key link_number k states) → KeptAs told (at_key link_number k (put_at link_number j new states))
-kept-put k told true j e states old new found key kind h =
+-- who is at a link stays
+abbrev pub LeadsAs : LinkState → LinkState → Type 0
+LeadsAs old new = (new.connecting ≡ old.connecting) × (new.server ≡ old.server)
+
+-- a link that leads to the same takes the place of one
+kept-put : (k : ℕ) (told t : Bool) (j : ℕ) → eqb k j ≡ t → (states : List LinkState) (old new : LinkState) → at_key link_number j states ≡ Some old → link_number new ≡ j → LeadsAs old new → KeptAs told (at_key link_number k states) → KeptAs told (at_key link_number k (put_at link_number j new states))
+kept-put k told true j e states old new found key lead h =
     let same : j ≡ k = grind (arith, nat_tests) in
     let before : at_key link_number k states ≡ Some old = subst (λ i. at_key link_number i states ≡ Some old) same found in
     let after : at_key link_number k (put_at link_number j new states) ≡ Some new = subst (λ i. at_key link_number i (put_at link_number j new states) ≡ Some new) same (at_key-put_same link_number j old new states key found) in
-    kept-as told (at_key link_number k states) (at_key link_number k (put_at link_number j new states)) (ap kind_of after ∙ kind ∙ ap kind_of (sym before)) h
-kept-put k told false j e states old new found key kind h =
+    let was : KeptAs told (Some old) = rw before at h in
+    rw after (lead.0 ∙ was ∙ ap (λ server. is_some server && not told) (sym lead.1))
+kept-put k told false j e states old new found key lead h =
     let other : k ≢ j = λ q. grind (arith, nat_tests) in
     rw (at_key-put_other link_number j k new states key other) h
 
 pub For-read : (clocked : Option ℕ) (states : List LinkState) (used ran ran' : ℕ) (refused : List LinkId) (unlisted : ℕ) (taken : List Happening) (link : LinkId) (place : ℕ) (old new : LinkState) (bytes : List ℕ) → IsKeyPlace link_number link.0 states place → old ≡ get_or states place old → new.link ≡ old.link
-    → (used < link.0 → at_key link_number link.0 states ≡ None) → old.connecting ≡ false → kind_of (Some new) ≡ kind_of (Some old) → IsTail (rest (tail_on link.0 taken) bytes) new.tail → ran' ≡ min (ran + length (read_events link.0 (tail_on link.0 taken) bytes)) (2 ^ 64 - 1)
+    → (used < link.0 → at_key link_number link.0 states ≡ None) → old.connecting ≡ false → LeadsAs old new → (ran' ≡ 0 → ran ≡ 0)
     → AgreesWithHappenings clocked states used ran refused unlisted taken → AgreesWithHappenings clocked (set states place new) used ran' refused unlisted (taken ++ Read link bytes ∷ [])
-For-read clocked states used ran ran' refused unlisted taken link place old new bytes p at same unknown stands kind t count s =
+For-read clocked states used ran ran' refused unlisted taken link place old new bytes p at same unknown stands lead first s =
     let found : at_key link_number link.0 states ≡ Some old = p.found old ∙ ap Some (sym at) in
     let key : link_number new ≡ link.0 = ap (λ (l : LinkId). l.0) same ∙ at_key-key link_number link.0 states old found in
     let below : (k : ℕ) → used < k → k ≢ link.0 = λ k l q. (let none = unknown (subst (λ n. used < n) q l) in cc) in
     rw (p.put new) (record {
       clock = s.clock ∙ sym (clock-push None taken (Read link bytes) ∙ timeless-read link bytes (clock taken));
-      tails = λ k. read-tails link k (eqb k link.0) refl taken states old new bytes found key t (s.tails k);
       fresh = λ k l. text-quiet k taken (Read link bytes) (bytes_on-other link k bytes (below k l)) ∙ s.fresh k l;
       unmade = λ k l. stood-quiet k taken (Read link bytes) refl ∙ s.unmade k l;
-      stood = λ k. rw (stood-quiet k taken (Read link bytes) refl) (kept-put k (has_stood k taken) (eqb k link.0) link.0 refl states old new found key kind (s.stood k));
+      stood = λ k. rw (stood-quiet k taken (Read link bytes) refl) (kept-put k (has_stood k taken) (eqb k link.0) link.0 refl states old new found key lead (s.stood k));
       unread = λ k c. unread-put k (eqb k link.0) refl found key c;
-      events = events-more ran ran' taken (Read link bytes) s.events count;
       since = λ z. s.since z ∙ sym (since-kept taken (Read link bytes) (λ r. refl));
       counted = s.counted ∙ ap length (sym (since-kept taken (Read link bytes) (λ r. refl)));
       within = s.within;
@@ -283,7 +264,7 @@ For-read clocked states used ran ran' refused unlisted taken link place old new 
     unread-put k true e found key c =
         let same : link.0 ≡ k = grind (arith, nat_tests) in
         let after : at_key link_number k (put_at link_number link.0 new states) ≡ Some new = subst (λ i. at_key link_number i (put_at link_number link.0 new states) ≡ Some new) same (at_key-put_same link_number link.0 old new states key found) in
-        let standing : new.connecting ≡ false = ap connecting_of kind ∙ stands in
+        let standing : new.connecting ≡ false = lead.0 ∙ stands in
         absurd (false≢true (sym standing ∙ sym (ap is_connecting after) ∙ c))
     unread-put k false e found key c =
         let other : k ≢ link.0 = λ q. grind (arith, nat_tests) in
@@ -292,27 +273,8 @@ For-read clocked states used ran ran' refused unlisted taken link place old new 
     -- a link came before it is read
     begun : at_key link_number link.0 states ≡ Some old → ran' ≡ 0 → ⊥
     begun found z =
-        let p = none-before ran ran' (length (read_events link.0 (tail_on link.0 taken) bytes)) count z in
-        let q : None ≡ Some old = sym (s.empty p.0 link.0) ∙ found in
+        let q : None ≡ Some old = sym (s.empty (first z) link.0) ∙ found in
         cc
-
--- what is on the link of a place
-pub IsTail-at : (clocked : Option ℕ) (states : List LinkState) (used ran : ℕ) (refused : List LinkId) (unlisted : ℕ) (taken : List Happening) (link place : ℕ) (old : LinkState) → IsKeyPlace link_number link states place → old ≡ get_or states place old → AgreesWithHappenings clocked states used ran refused unlisted taken → IsTail (tail_on link taken) old.tail
-IsTail-at clocked states used ran refused unlisted taken link place old p at s =
-    let found : at_key link_number link states ≡ Some old = p.found old ∙ ap Some (sym at) in
-    rw found at (s.tails link)
-
-came-tails : (taken : List Happening) (states : List LinkState) (state : LinkState) (k : ℕ) → IsTail (tail_on (link_number state) taken) state.tail → IfSome (at_key link_number k states) (λ s. IsTail (tail_on k taken) s.tail) → IfSome (at_key link_number k (states ++ state ∷ [])) (λ s. IsTail (tail_on k taken) s.tail)
-came-tails taken [] state k t h = came-by (eqb (link_number state) k) refl
-  where
-    came-by : (b : Bool) → eqb (link_number state) k ≡ b → IfSome (cond b (Some state) None) (λ s. IsTail (tail_on k taken) s.tail)
-    came-by true e = let same : link_number state ≡ k = grind (arith, nat_tests) in subst (λ n. IsTail (tail_on n taken) state.tail) same t
-    came-by false e = tt
-came-tails taken (u ∷ us) state k t h = following-by (eqb (link_number u) k) (came-tails taken us state k t) h
-  where
-    following-by : (b : Bool) → (IfSome (at_key link_number k us) (λ s. IsTail (tail_on k taken) s.tail) → IfSome (at_key link_number k (us ++ state ∷ [])) (λ s. IsTail (tail_on k taken) s.tail)) → IfSome (cond b (Some u) (at_key link_number k us)) (λ s. IsTail (tail_on k taken) s.tail) → IfSome (cond b (Some u) (at_key link_number k (us ++ state ∷ []))) (λ s. IsTail (tail_on k taken) s.tail)
-    following-by true f g = g
-    following-by false f g = f g
 
 kept-came : (told : Bool) (states : List LinkState) (state : LinkState) (k : ℕ) → (link_number state ≡ k → state.connecting ≡ (is_some state.server && not told)) → KeptAs told (at_key link_number k states) → KeptAs told (at_key link_number k (states ++ state ∷ []))
 kept-came told [] state k t h = came-by (eqb (link_number state) k) refl
@@ -349,20 +311,17 @@ kind-new taken state used link next number kind unmade k e =
     and-true true = refl
     and-true false = refl
 
-pub For-came : (clocked : Option ℕ) (states : List LinkState) (used used' ran ran' : ℕ) (refused : List LinkId) (unlisted : ℕ) (taken : List Happening) (link : LinkId) (nonce : List ℕ) (state : LinkState) → link.0 ≡ used + 1 → used' ≡ used + 1 → state.link ≡ link → state.tail ≡ record { line = []; over = false } → state.connecting ≡ is_some state.server → ran' ≡ min (ran + 1) (2 ^ 64 - 1)
+pub For-came : (clocked : Option ℕ) (states : List LinkState) (used used' ran ran' : ℕ) (refused : List LinkId) (unlisted : ℕ) (taken : List Happening) (link : LinkId) (nonce : List ℕ) (state : LinkState) → link.0 ≡ used + 1 → used' ≡ used + 1 → state.link ≡ link → state.connecting ≡ is_some state.server → ran' ≡ min (ran + 1) (2 ^ 64 - 1)
     → AgreesWithHappenings clocked states used ran refused unlisted taken → AgreesWithHappenings clocked (states ++ state ∷ []) used' ran' refused unlisted (taken ++ Accepted link nonce ∷ [])
-For-came clocked states used used' ran ran' refused unlisted taken link nonce state next next' key made kind count s =
+For-came clocked states used used' ran ran' refused unlisted taken link nonce state next next' key kind count s =
     let none : flat_map (bytes_on link.0) taken ≡ [] = s.fresh link.0 (omega arith) in
     let number : link_number state ≡ link.0 = ap (λ (l : LinkId). l.0) key in
-    let t : IsTail (tail_on (link_number state) taken) state.tail = rw (number, made, none) (record { bounded = omega arith; short = λ q. refl; long = λ q. absurd (false≢true q) }) in
     record {
       clock = s.clock ∙ sym (clock-push None taken (Accepted link nonce) ∙ timeless-accepted link nonce (clock taken));
-      tails = λ k. rw (tail_on-quiet k taken (Accepted link nonce) refl) (came-tails taken states state k t (s.tails k));
       fresh = λ k l. text-quiet k taken (Accepted link nonce) refl ∙ s.fresh k (omega arith);
       unmade = λ k l. stood-quiet k taken (Accepted link nonce) refl ∙ s.unmade k (omega arith);
       stood = λ k. rw (stood-quiet k taken (Accepted link nonce) refl) (kept-came (has_stood k taken) states state k (kind-new taken state used link next number kind s.unmade k) (s.stood k));
       unread = λ k c. text-quiet k taken (Accepted link nonce) refl ∙ unread-came states state k (flat_map (bytes_on k) taken ≡ []) (λ e. subst (λ i. flat_map (bytes_on i) taken ≡ []) (sym number ∙ e) none) (s.unread k) c;
-      events = events-more ran ran' taken (Accepted link nonce) s.events count;
       since = λ z. s.since z ∙ sym (since-kept taken (Accepted link nonce) (λ r. refl));
       counted = s.counted ∙ ap length (sym (since-kept taken (Accepted link nonce) (λ r. refl)));
       within = let w = s.within in omega arith;
@@ -374,12 +333,10 @@ pub For-refused : (clocked : Option ℕ) (states : List LinkState) (used used' r
     → AgreesWithHappenings clocked states used ran refused unlisted taken → AgreesWithHappenings clocked states used' ran' refused unlisted (taken ++ Accepted link nonce ∷ [])
 For-refused clocked states used used' ran ran' refused unlisted taken link nonce next count s = record {
   clock = s.clock ∙ sym (clock-push None taken (Accepted link nonce) ∙ timeless-accepted link nonce (clock taken));
-  tails = λ k. rw (tail_on-quiet k taken (Accepted link nonce) refl) (s.tails k);
   fresh = λ k l. text-quiet k taken (Accepted link nonce) refl ∙ s.fresh k (omega arith);
   unmade = λ k l. stood-quiet k taken (Accepted link nonce) refl ∙ s.unmade k (omega arith);
   stood = λ k. rw (stood-quiet k taken (Accepted link nonce) refl) (s.stood k);
   unread = λ k c. text-quiet k taken (Accepted link nonce) refl ∙ s.unread k c;
-  events = events-more ran ran' taken (Accepted link nonce) s.events count;
   since = λ z. s.since z ∙ sym (since-kept taken (Accepted link nonce) (λ r. refl));
   counted = s.counted ∙ ap length (sym (since-kept taken (Accepted link nonce) (λ r. refl)));
   within = let w = s.within in omega arith;
@@ -420,12 +377,10 @@ pub For-stands : (clocked : Option ℕ) (states : List LinkState) (used ran ran'
     → AgreesWithHappenings clocked states used ran refused unlisted taken → AgreesWithHappenings clocked (changed_at link.0 standing_state states (at_key link_number link.0 states)) used ran' refused unlisted (taken ++ Connected link ∷ [])
 For-stands clocked states used ran ran' refused unlisted taken link within' count s = record {
   clock = s.clock ∙ sym (clock-push None taken (Connected link) ∙ timeless-connected link (clock taken));
-  tails = λ k. rw (tail_on-quiet k taken (Connected link) refl) (SameTails-changed link.0 standing_state keeps-standing states k (tail_on k taken) (s.tails k));
   fresh = λ k l. text-quiet k taken (Connected link) refl ∙ s.fresh k l;
   unmade = λ k l. stood-quiet k taken (Connected link) (above k l (eqb k link.0) refl) ∙ s.unmade k l;
   stood = λ k. rw (at_key-changed link.0 k standing_state keeps-standing states) (stood-more (has_stood k taken) (has_stood k (taken ++ Connected link ∷ [])) (eqb k link.0) (at_key link_number k states) (stood-push k taken (Connected link) ∙ ap (λ t. has_stood k taken || t) (stands-here link k (eqb k link.0) refl)) (s.stood k));
   unread = λ k c. text-quiet k taken (Connected link) refl ∙ s.unread k (connecting-stood (eqb k link.0) (at_key link_number k states) (rw (at_key-changed link.0 k standing_state keeps-standing states) at c)).1;
-  events = events-more ran ran' taken (Connected link) s.events count;
   since = λ z. s.since z ∙ sym (since-kept taken (Connected link) (λ r. refl));
   counted = s.counted ∙ ap length (sym (since-kept taken (Connected link) (λ r. refl)));
   within = s.within;
@@ -437,20 +392,17 @@ For-stands clocked states used ran ran' refused unlisted taken link within' coun
   above k l false e = stands-here link k false e
 
 -- a connection was asked for, and its link is kept
-pub For-asked : (clocked : Option ℕ) (states : List LinkState) (used used' ran : ℕ) (refused : List LinkId) (unlisted : ℕ) (taken : List Happening) (link : LinkId) (state : LinkState) → link.0 ≡ used + 1 → used' ≡ used + 1 → state.link ≡ link → state.tail ≡ record { line = []; over = false } → state.connecting ≡ is_some state.server → 1 ≤ ran
+pub For-asked : (clocked : Option ℕ) (states : List LinkState) (used used' ran : ℕ) (refused : List LinkId) (unlisted : ℕ) (taken : List Happening) (link : LinkId) (state : LinkState) → link.0 ≡ used + 1 → used' ≡ used + 1 → state.link ≡ link → state.connecting ≡ is_some state.server → 1 ≤ ran
     → AgreesWithHappenings clocked states used ran refused unlisted taken → AgreesWithHappenings clocked (states ++ state ∷ []) used' ran refused unlisted taken
-For-asked clocked states used used' ran refused unlisted taken link state next next' key made kind begun s =
+For-asked clocked states used used' ran refused unlisted taken link state next next' key kind begun s =
     let none : flat_map (bytes_on link.0) taken ≡ [] = s.fresh link.0 (omega arith) in
     let number : link_number state ≡ link.0 = ap (λ (l : LinkId). l.0) key in
-    let t : IsTail (tail_on (link_number state) taken) state.tail = rw (number, made, none) (record { bounded = omega arith; short = λ q. refl; long = λ q. absurd (false≢true q) }) in
     record {
       clock = s.clock;
-      tails = λ k. came-tails taken states state k t (s.tails k);
       fresh = λ k l. s.fresh k (omega arith);
       unmade = λ k l. s.unmade k (omega arith);
       stood = λ k. kept-came (has_stood k taken) states state k (kind-new taken state used link next number kind s.unmade k) (s.stood k);
       unread = λ k c. unread-came states state k (flat_map (bytes_on k) taken ≡ []) (λ e. subst (λ i. flat_map (bytes_on i) taken ≡ []) (sym number ∙ e) none) (s.unread k) c;
-      events = s.events;
       since = s.since;
       counted = s.counted;
       within = let w = s.within in omega arith;
@@ -463,12 +415,10 @@ pub For-dropped : (clocked : Option ℕ) (states : List LinkState) (used used' r
     → AgreesWithHappenings clocked states used ran refused unlisted taken → AgreesWithHappenings clocked states used' ran refused unlisted taken
 For-dropped clocked states used used' ran refused unlisted taken next begun s = record {
   clock = s.clock;
-  tails = s.tails;
   fresh = λ k l. s.fresh k (omega arith);
   unmade = λ k l. s.unmade k (omega arith);
   stood = s.stood;
   unread = s.unread;
-  events = s.events;
   since = s.since;
   counted = s.counted;
   within = let w = s.within in omega arith;
@@ -484,12 +434,10 @@ For-listed clocked states used ran refused refused' unlisted unlisted' taken lin
     let since : refused_since (taken ++ Refused link ∷ []) ≡ refused_since taken ++ link ∷ [] = refused-push [] taken (Refused link) in
     record {
       clock = s.clock ∙ sym (clock-push None taken (Refused link) ∙ timeless-refused link (clock taken));
-      tails = λ k. rw (tail_on-quiet k taken (Refused link) refl) (s.tails k);
       fresh = λ k l. text-quiet k taken (Refused link) refl ∙ s.fresh k l;
       unmade = λ k l. stood-quiet k taken (Refused link) refl ∙ s.unmade k l;
       stood = λ k. rw (stood-quiet k taken (Refused link) refl) (s.stood k);
       unread = λ k c. text-quiet k taken (Refused link) refl ∙ s.unread k c;
-      events = events-more ran ran taken (Refused link) s.events (let e = s.events in omega arith);
       since = λ z. listed z ∙ ap (λ r. r ++ link ∷ []) (s.since (stays z)) ∙ sym since;
       counted = rw since (let c = s.counted in let l = length-append (refused_since taken) (link ∷ []) in omega arith);
       within = omega arith;
@@ -504,12 +452,10 @@ For-named clocked states used used' ran refused refused' unlisted unlisted' take
     let since : refused_since (taken ++ Refused link ∷ []) ≡ refused_since taken ++ link ∷ [] = refused-push [] taken (Refused link) in
     record {
       clock = s.clock ∙ sym (clock-push None taken (Refused link) ∙ timeless-refused link (clock taken));
-      tails = λ k. rw (tail_on-quiet k taken (Refused link) refl) (s.tails k);
       fresh = λ k l. text-quiet k taken (Refused link) refl ∙ s.fresh k (omega arith);
       unmade = λ k l. stood-quiet k taken (Refused link) refl ∙ s.unmade k (omega arith);
       stood = λ k. rw (stood-quiet k taken (Refused link) refl) (s.stood k);
       unread = λ k c. text-quiet k taken (Refused link) refl ∙ s.unread k c;
-      events = events-more ran ran taken (Refused link) s.events (let e = s.events in omega arith);
       since = λ z. listed z ∙ ap (λ r. r ++ link ∷ []) (s.since (stays z)) ∙ sym since;
       counted = rw since (let c = s.counted in let l = length-append (refused_since taken) (link ∷ []) in omega arith);
       within = few;

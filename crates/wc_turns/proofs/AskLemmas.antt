@@ -33,6 +33,10 @@ use Rattle.wc_turns.specs.Served.{closed_by, leaving_closes}
 use Rattle.wc_turns.specs.Sources.{NothingBecameReady, TakesNothing}
 use Rattle.wc_turns.specs.Steps.{LosesLink, TakesLink, DropsServer, DropsLink, refused_by}
 use Rattle.wc_turns.specs.Turns.{AgreesWithHappenings, AgreesOnLinks, AgreesWithSockets, moment, OnOneSide, IsServers, MomentAdvances, CausedBy, closed_so_far, GivesNothing, HasReason, IsAmong, wake_count, listen_faults, has_failed, LoopStep}
+use Rattle.wc_turns.specs.Heard.{Heard, Happened, happenings}
+use Rattle.wc_turns.specs.Turns.{AgreesWithHeard, EndsEach}
+use Rattle.wc_turns.proofs.HeardLemmas.{quiet-happened, socket-stays}
+use Rattle.wc_turns.proofs.HeardAgrees.{Hears-quiet, Hears-asked, Hears-used, socket-came}
 use Rattle.wc_turns.proofs.KeyedLemmas.{none_of, same-keys, or-true, is_some-push, at_key-push_other, at_key-without_none, absent-missing, distinct-push, distinct-without, map-push, length-without_le}
 use Rattle.wc_turns.proofs.ArriveLemmas.{no-starving}
 use Rattle.wc_turns.proofs.ComeLemmas.{came-flag}
@@ -151,11 +155,13 @@ pub LoopStep-unmade : (x x' y : Headless) (a b : Seen) (wanted : Wanted) (others
     → b.used ≡ a.used + 1 → (IsTrue b.tells → b.asked ≡ a.asked ++ connect_of wanted ∷ []) → (IsTrue b.tells → (k : ℕ) → b.sent k ≡ a.sent k) → (IsTrue b.tells → (k : ℕ) → b.choked k ≡ a.choked k) → ((k : ℕ) → b.there k ≡ a.there k) → ((k : ℕ) → b.undrained k ≡ a.undrained k) → ((k : ℕ) → b.blocked k ≡ a.blocked k) → b.listening ≡ a.listening
     → LoopStep true 0 0 x y a b
 LoopStep-unmade x x' y a b wanted others first same takes s' call used asked sent choked there undrained blocked listening =
-    LoopStep-ask true 0 0 x y a b (Refused wanted.link ∷ []) (wanted.address ∷ []) [] call (λ below. (let e = takes.turns ∙ ap (λ (z : Headless). z.turns) same in omega arith)) refl refl
+    LoopStep-ask true 0 0 x y a b (Refused wanted.link ∷ []) (Happened (Refused wanted.link) ∷ []) (wanted.address ∷ []) [] refl call (λ below. (let e = takes.turns ∙ ap (λ (z : Headless). z.turns) same in omega arith)) refl refl
     (let e = ap (λ (c : CoreView). c.starved) core in omega arith) (λ t s still below. closes ∙ sym (append-nil _)) (λ s. reasons-same x y a b closes) (λ s k h. (sides.servers k h).0) (λ s. Onward-none x.core y.core (Refused wanted.link ∷ []) (let e = ap (λ (c : CoreView). c.servers.used) core in omega arith) (λ k. refl))
     (λ over. quits ∙ over) (λ t s. saves-as x.core y.core _ core refl refl)
     (λ s. rw (opened, core, takes.listening ∙ ap (λ (z : Headless). z.listening) same, refused, takes.used) (among-unmade x.links.opened.items x.core x.used x.listening x.refused.items a b wanted others first used there undrained blocked listening s))
     (λ t s on. told t (s.told (call.told t) (sym quits ∙ on)))
+    (λ t s on. hears s.history (s.spells (call.told t)) (s.told (call.told t) (sym quits ∙ on)) (s.hears (call.told t) (sym quits ∙ on)))
+    (λ t s k e. socket-stays k a.taken (Refused wanted.link ∷ []) (s.sockets (call.told t) k (socket-came x.links.opened.items (new_state wanted.link (Some wanted.server) true) k refl (rw opened at e))))
     (λ s none. absurd (begun x a wanted others s first (sym ran ∙ none)))
     (λ t s. record {
       events = [];
@@ -164,6 +170,7 @@ LoopStep-unmade x x' y a b wanted others first same takes s' call used asked sen
       verdicts = verdicts-same x.core.verdicts y.core.verdicts (ap (λ (c : CoreView). c.verdicts) core);
       advances = λ still below rows were agrees. advances t rows were;
       silent = λ over. refl;
+      ends = (tt, tt);
       last = λ still below rows were agrees going over. absurd (false≢true (sym going ∙ sym quits ∙ over));
     })
   where
@@ -200,17 +207,23 @@ LoopStep-unmade x x' y a b wanted others first same takes s' call used asked sen
     told : IsTrue b.tells → AgreesWithHappenings x.clock x.links.opened.items x.used x.ran x.refused.items x.unlisted a.taken → AgreesWithHappenings y.clock y.links.opened.items y.used y.ran y.refused.items y.unlisted (a.taken ++ Refused wanted.link ∷ [])
     told t s =
         let one = positive x.ran (begun x a wanted others s' first) in
-        let kept = For-asked x.clock x.links.opened.items x.used y.used x.ran x.refused.items x.unlisted a.taken wanted.link (new_state wanted.link (Some wanted.server) true) next count refl refl refl one s in
+        let kept = For-asked x.clock x.links.opened.items x.used y.used x.ran x.refused.items x.unlisted a.taken wanted.link (new_state wanted.link (Some wanted.server) true) next count refl refl one s in
         rw (takes.clock ∙ ap (λ (z : Headless). z.clock) same, opened, ran, refused, unlisted)
         (For-named x.clock (x.links.opened.items ++ new_state wanted.link (Some wanted.server) true ∷ []) y.used y.used x.ran x.refused.items (x.refused.items ++ wanted.link ∷ []) x.unlisted x.unlisted a.taken wanted.link (omega arith)
         (let u = count in let w = s.within in let l = length-append x.refused.items (wanted.link ∷ []) in omega arith) one (λ z. z) (λ z. refl) (let l = length-append x.refused.items (wanted.link ∷ []) in omega arith) kept)
+
+    hears : (history : List Heard) → happenings history ≡ a.taken → AgreesWithHappenings x.clock x.links.opened.items x.used x.ran x.refused.items x.unlisted a.taken → AgreesWithHeard x.links.opened.items x.used x.ran a.taken history
+        → AgreesWithHeard y.links.opened.items y.used y.ran (a.taken ++ Refused wanted.link ∷ []) (history ++ Happened (Refused wanted.link) ∷ [])
+    hears history spells t h = rw (opened, ran)
+        (Hears-quiet (x.links.opened.items ++ new_state wanted.link (Some wanted.server) true ∷ []) y.used y.used x.ran x.ran a.taken history (Happened (Refused wanted.link)) spells (quiet-happened (Refused wanted.link) (λ k. refl) (λ k. refl)) (omega arith) (let e = h.events in omega arith)
+        (Hears-asked x.links.opened.items x.used y.used x.ran a.taken history wanted.link (new_state wanted.link (Some wanted.server) true) spells next count refl (record { tail = refl; framing = refl; ended = refl }) refl t.fresh h))
 
     advances : IsTrue b.tells → (rows : Beside) → WereTold x.core rows → MomentAdvances rows (moment x a) (moment y b) [] []
     advances t rows were = MomentAdvances-none rows (moment x a) (moment y b)
         (rw core (record { same = refl; told = were })) quits
         (λ k. rw (count, core) (gone-same k x.used (eqb (x.used + 1) k) refl (has_party k x.core) (λ e. wanted-party x a wanted others first s' k (rw next e))))
         (λ k e. spoils-more k (a.choked k) (b.choked k) a.taken (Refused wanted.link ∷ []) (λ q. sym (choked t k) ∙ q) (ap (λ ts. b.choked k || has_failed k ts) (sym (call.taken t)) ∙ e))
-        (λ k. rw (sent t k, core) refl) (λ k e. sent t k) sides
+        (λ k plain. rw (sent t k, core) refl) (λ k plain e. sent t k) sides
         (rw (asked t, core, first) (append_assoc a.asked (connect_of wanted ∷ []) (asks_of others)))
 
 -- ---- there is no memory for it
@@ -387,24 +400,28 @@ reasons-front : (x y : Headless) (a b : Seen) → All (HasReason x y a b) x.link
 reasons-front x y a b = All-front (HasReason x y a b) x.links.closed.items (closes_asked x.core) (All-weaker (λ c. IsAmong c (closed_so_far x)) (HasReason x y a b) (λ c i. inl i) (closed_so_far x) (among-self (closed_so_far x)))
 
 -- a connection was begun or refused, and there was no memory for it
-pub LoopStep-dropped : (refused : Bool) (given : List Happening) (x x' y : Headless) (a b : Seen) (wanted : Wanted) (others : List Wanted) → x.core.servers.wanted ≡ wanted ∷ others → x' ≡ record x { core = with_wanted others x.core } → DropsLink x' y wanted refused → AgreesWithSockets x a → AskingCall a b given (wanted.address ∷ []) → wake_count given ≡ 0 → listen_faults given ≡ 0 → GivesNothing given → events_from a.taken given ≡ []
+pub LoopStep-dropped : (refused : Bool) (given : List Happening) (heard : List Heard) (x x' y : Headless) (a b : Seen) (wanted : Wanted) (others : List Wanted) → x.core.servers.wanted ≡ wanted ∷ others → x' ≡ record x { core = with_wanted others x.core } → DropsLink x' y wanted refused → AgreesWithSockets x a → AskingCall a b given (wanted.address ∷ []) → wake_count given ≡ 0 → listen_faults given ≡ 0 → GivesNothing given → happenings heard ≡ given → ((history : List Heard) → events_from history heard ≡ []) → ((history : List Heard) → EndsEach history heard)
     → b.used ≡ a.used + 1 → ((k : ℕ) → a.there k ≡ is_there (at_key link_number k x.links.opened.items) → b.there k ≡ is_there (at_key link_number k x.links.opened.items)) → ((k : ℕ) → a.undrained k ≡ is_undrained (at_key link_number k x.links.opened.items) → b.undrained k ≡ is_undrained (at_key link_number k x.links.opened.items)) → ((k : ℕ) → a.blocked k ≡ is_blocked (at_key link_number k x.links.opened.items) → b.blocked k ≡ is_blocked (at_key link_number k x.links.opened.items)) → b.listening ≡ a.listening
     → (IsTrue b.tells → AgreesWithHappenings x.clock x.links.opened.items x.used x.ran x.refused.items x.unlisted a.taken → AgreesWithHappenings x.clock x.links.opened.items y.used x.ran y.refused.items y.unlisted (a.taken ++ given))
+    → ((history : List Heard) → happenings history ≡ a.taken → AgreesWithHeard x.links.opened.items x.used x.ran a.taken history → AgreesWithHeard x.links.opened.items y.used x.ran (a.taken ++ given) (history ++ heard))
     → LoopStep true 0 0 x y a b
-LoopStep-dropped refused given x x' y a b wanted others first same drops s' call wakes faults gives nothing used there undrained blocked listening told =
-    LoopStep-ask true 0 0 x y a b given (wanted.address ∷ []) [] call (λ below. (let e = drops.turns ∙ ap (λ (z : Headless). z.turns) same in omega arith)) (omega arith) (omega arith)
+LoopStep-dropped refused given heard x x' y a b wanted others first same drops s' call wakes faults gives spells nothing ends used there undrained blocked listening told hears =
+    LoopStep-ask true 0 0 x y a b given heard (wanted.address ∷ []) [] spells call (λ below. (let e = drops.turns ∙ ap (λ (z : Headless). z.turns) same in omega arith)) (omega arith) (omega arith)
     (let r = d.loses.keeps.rises in let e = ap (λ (c : CoreView). c.starved) d.core in omega arith) (λ t s still below. no-starving x.core.starved y.core.starved d.starved still below) (λ s. reasons) (λ s. drops-sides (with_wanted others x.core) y.core wanted.link.0 d) (λ s. Onward-none x.core y.core given (let e = ap (λ (c : CoreView). c.servers.used) d.core in let u = d.seats.used in omega arith) (λ k. no-arrivals k given gives))
     (λ over. quits ∙ over) (λ t s. saves)
     (λ s. rw (opened, drops.used, drops.listening ∙ ap (λ (z : Headless). z.listening) same, drops.lists ∙ ap (λ (z : Headless). z.refused.items ++ drops.listed) same) (among-dropped x.links.opened.items x.core y.core x.used x.listening refused x.refused.items drops.listed a b wanted others first d drops.within used there undrained blocked listening s))
     (λ t s on. rw (drops.clock ∙ ap (λ (z : Headless). z.clock) same, opened, ran) (told t (s.told (call.told t) (sym quits ∙ on))))
+    (λ t s on. rw (opened, ran) (hears s.history (s.spells (call.told t)) (s.hears (call.told t) (sym quits ∙ on))))
+    (λ t s k e. socket-stays k a.taken given (s.sockets (call.told t) k (rw opened at e)))
     (λ s none. absurd (begun x a wanted others s first (sym ran ∙ none)))
     (λ t s. record {
       events = [];
-      reaches = rw (ran, nothing) (ReachesEvents-none x.core.quits y.core.quits x.ran);
+      reaches = rw (ran, nothing s.history) (ReachesEvents-none x.core.quits y.core.quits x.ran);
       rises = (let r = d.loses.keeps.rises in let e = ap (λ (c : CoreView). c.starved) d.core in omega arith);
       verdicts = subst (Stay x.core.verdicts) (sym (ap (λ (c : CoreView). c.verdicts) d.core)) d.loses.keeps.verdicts;
       advances = λ still below rows were agrees. no-starving x.core.starved y.core.starved d.starved still below;
-      silent = λ over. gives;
+      silent = λ over. rw spells gives;
+      ends = ends s.history;
       last = λ still below rows were agrees going over. no-starving x.core.starved y.core.starved d.starved still below;
     })
   where

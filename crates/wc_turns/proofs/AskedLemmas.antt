@@ -1,5 +1,9 @@
 -- What the core asks for after an event is done.
 use Rattle.wc_core.specs.CoreView.{CoreView}
+use Rattle.wc_turns.specs.Heard.{Heard, Happened, happenings}
+use Rattle.wc_turns.specs.Turns.{AgreesWithHeard}
+use Rattle.wc_turns.proofs.HeardLemmas.{quiet-happened}
+use Rattle.wc_turns.proofs.HeardAgrees.{Hears-quiet, Hears-used}
 use Rattle.wc_turns.proofs.AskLemmas.{with_wanted, positive, begun}
 use Rattle.wc_turns.specs.declared.headless.Headless.{Headless}
 use Rattle.wc_outside.specs.Seen.{Seen}
@@ -139,6 +143,18 @@ told-refused x x' y taken wanted drops used refused unlisted next begun low s =
     let count : length y.refused.items + y.unlisted ≡ length x.refused.items + x.unlisted + 1 = omega arith in
     For-named x.clock x.links.opened.items x.used y.used x.ran x.refused.items y.refused.items x.unlisted y.unlisted taken wanted.link (omega arith) (omega arith) begun
     (λ z. (let q = (drops.all z).0 in omega arith)) (λ z. drops.lists ∙ ap (λ v. v.items ++ drops.listed) refused ∙ ap (λ ls. x.refused.items ++ ls) (drops.all z).1) count s
+
+-- what was heard, where it was begun
+pub hears-begun : (x x' y : Headless) (taken : List Happening) (history : List Heard) (wanted : Wanted) → DropsLink x' y wanted false → wanted.link.0 ≡ x.used + 1
+    → AgreesWithHeard x.links.opened.items x.used x.ran taken history → AgreesWithHeard x.links.opened.items y.used x.ran (taken ++ []) (history ++ [])
+hears-begun x x' y taken history wanted drops next h =
+    rw (append-nil taken, append-nil history) (Hears-used x.links.opened.items x.used y.used x.ran taken history (let u = drops.used in omega arith) h)
+
+-- and where it was refused
+pub hears-refused : (x x' y : Headless) (taken : List Happening) (history : List Heard) (wanted : Wanted) → DropsLink x' y wanted true → wanted.link.0 ≡ x.used + 1 → happenings history ≡ taken
+    → AgreesWithHeard x.links.opened.items x.used x.ran taken history → AgreesWithHeard x.links.opened.items y.used x.ran (taken ++ Refused wanted.link ∷ []) (history ++ Happened (Refused wanted.link) ∷ [])
+hears-refused x x' y taken history wanted drops next spells h =
+    Hears-quiet x.links.opened.items x.used y.used x.ran x.ran taken history (Happened (Refused wanted.link)) spells (quiet-happened (Refused wanted.link) (λ k. refl) (λ k. refl)) (let u = drops.used in omega arith) (let e = h.events in omega arith) h
 
 -- ---- the connection that is next
 

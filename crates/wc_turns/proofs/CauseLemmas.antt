@@ -1,19 +1,21 @@
 -- Causes of closes go on standing.
-use Rattle.std.proofs.Common.{◌≡◌, inl, inr, ℕ, ◌<◌, ◌≤◌, Bool, true, false, ◌||◌, List, ◌∷◌, ◌++◌, [], All, IsTrue, refl, sym, ap, ◌∙◌, subst, arith, append_assoc}
+use Rattle.std.proofs.Common.{◌≡◌, ◌⊎◌, inl, inr, ℕ, ◌<◌, ◌≤◌, Bool, true, false, ◌||◌, List, ◌∷◌, ◌++◌, [], All, IsTrue, refl, sym, ap, ◌∙◌, subst, arith, append_assoc}
 use Rattle.std.proofs.lemmas.Bool.{false≢true}
 use Rattle.std.proofs.lemmas.List.{append_cancel_left}
 use Rattle.std.proofs.lemmas.List.Folds.{list_any-append}
 use Rattle.std.proofs.lemmas.List.Elements.{All-weaker, All-nil, All-cons, All-head, All-tail, All-append}
 use Rattle.wc_text.specs.declared.names.Cause.{Cause}
-use Rattle.wc_text.specs.declared.names.Cause.TheVariants.{Ended as CauseEnded, Failed as CauseFailed, LoginFailed, NoMemory, Surplus, Quit as CauseQuit, Disconnected, NickTaken}
+use Rattle.wc_text.specs.declared.names.Cause.TheVariants.{Ended as CauseEnded, Failed as CauseFailed, LoginFailed, NoMemory, Surplus, Quit as CauseQuit, Disconnected, NickTaken, BadSocket}
 use Rattle.wc_outside.specs.Seen.{Seen}
 use Rattle.wc_outside.specs.Faults.{NeverFall}
 use Rattle.wc_outside.specs.declared.happening.Happening.{Happening}
+use Rattle.wc_outside.specs.declared.happening.Happening.TheVariants.{Ended}
 use Rattle.wc_core.specs.CoreView.{CoreView}
 use Rattle.wc_turns.specs.declared.links.Closed.{Closed}
 use Rattle.wc_turns.specs.declared.headless.Headless.{Headless}
 use Rattle.wc_turns.specs.Events.{comes_on, has_come}
-use Rattle.wc_turns.specs.Turns.{HasGained, CausedBy, IsServers, IsOfServer, HasCause, IsAmong, HasReason, closed_so_far}
+use Rattle.wc_turns.proofs.HeardLemmas.{socket-stays}
+use Rattle.wc_turns.specs.Turns.{HasGained, GainsFrames, CausedBy, IsServers, IsOfServer, HasCause, IsAmong, HasReason, closed_so_far}
 
 pub gained-later : (a b c : Seen) (h : Happening) (more : List Happening) → c.taken ≡ b.taken ++ more → HasGained a b h → HasGained a c h
 gained-later a b c h more e g = record {
@@ -29,8 +31,17 @@ gained-following a b c h more e g = record {
   taken = g.taken ∙ ap (λ xs. xs ++ (g.front ++ h ∷ g.rest)) e ∙ append_assoc a.taken more (g.front ++ h ∷ g.rest) ∙ ap (λ xs. a.taken ++ xs) (sym (append_assoc more g.front (h ∷ g.rest)));
 }
 
+-- an end was told, or bytes came on a WebSocket
+ends-later : (link : ℕ) (a b c : Seen) (more : List Happening) → c.taken ≡ b.taken ++ more → HasGained a b (Ended (record { 0 = link })) ⊎ GainsFrames link a b → HasGained a c (Ended (record { 0 = link })) ⊎ GainsFrames link a c
+ends-later link a b c more e (inl g) = inl (gained-later a b c _ more e g)
+ends-later link a b c more e (inr g) = inr (record { bytes = g.bytes; gained = gained-later a b c _ more e g.gained; socket = rw e (socket-stays link b.taken more g.socket) })
+
+ends-following : (link : ℕ) (a b c : Seen) (more : List Happening) → b.taken ≡ a.taken ++ more → HasGained b c (Ended (record { 0 = link })) ⊎ GainsFrames link b c → HasGained a c (Ended (record { 0 = link })) ⊎ GainsFrames link a c
+ends-following link a b c more e (inl g) = inl (gained-following a b c _ more e g)
+ends-following link a b c more e (inr g) = inr (record { bytes = g.bytes; gained = gained-following a b c _ more e g.gained; socket = g.socket })
+
 later-by : (cause : Cause) (link : ℕ) (a b c : Seen) (more : List Happening) → (IsTrue c.tells → IsTrue b.tells) → (IsTrue c.tells → c.taken ≡ b.taken ++ more) → NeverFall b.faults c.faults → CausedBy cause link a b → CausedBy cause link a c
-later-by CauseEnded link a b c more told taken counts h = λ t. gained-later a b c _ more (taken t) (h (told t))
+later-by CauseEnded link a b c more told taken counts h = λ t. ends-later link a b c more (taken t) (h (told t))
 later-by CauseFailed link a b c more told taken counts h = (let p = h.0 in let q = counts.links in omega arith, λ t. gained-later a b c _ more (taken t) (h.1 (told t)))
 later-by LoginFailed link a b c more told taken counts h = λ t. (let g = h (told t) in (g.0, gained-later a b c _ more (taken t) g.1))
 later-by Surplus link a b c more told taken counts h = λ t. (let g = h (told t) in (g.0, gained-later a b c _ more (taken t) g.1))
@@ -38,9 +49,10 @@ later-by NoMemory link a b c more told taken counts h = tt
 later-by CauseQuit link a b c more told taken counts h = λ t. (let g = h (told t) in (g.0, gained-later a b c _ more (taken t) g.1))
 later-by Disconnected link a b c more told taken counts h = h
 later-by NickTaken link a b c more told taken counts h = h
+later-by BadSocket link a b c more told taken counts h = λ t. rw (taken t) (socket-stays link b.taken more (h (told t)))
 
 following-by : (cause : Cause) (link : ℕ) (a b c : Seen) (more : List Happening) → (IsTrue c.tells → IsTrue b.tells) → (IsTrue b.tells → b.taken ≡ a.taken ++ more) → NeverFall a.faults b.faults → CausedBy cause link b c → CausedBy cause link a c
-following-by CauseEnded link a b c more told taken counts h = λ t. gained-following a b c _ more (taken (told t)) (h t)
+following-by CauseEnded link a b c more told taken counts h = λ t. ends-following link a b c more (taken (told t)) (h t)
 following-by CauseFailed link a b c more told taken counts h = (let p = h.0 in let q = counts.links in omega arith, λ t. gained-following a b c _ more (taken (told t)) (h.1 t))
 following-by LoginFailed link a b c more told taken counts h = λ t. (let g = h t in (g.0, gained-following a b c _ more (taken (told t)) g.1))
 following-by Surplus link a b c more told taken counts h = λ t. (let g = h t in (g.0, gained-following a b c _ more (taken (told t)) g.1))
@@ -48,6 +60,7 @@ following-by NoMemory link a b c more told taken counts h = tt
 following-by CauseQuit link a b c more told taken counts h = λ t. (let g = h t in (g.0, gained-following a b c _ more (taken (told t)) g.1))
 following-by Disconnected link a b c more told taken counts h = h
 following-by NickTaken link a b c more told taken counts h = h
+following-by BadSocket link a b c more told taken counts h = h
 
 All-among : (P : Closed → Type 0) (xs : List Closed) (x : Closed) → All P xs → IsAmong x xs → P x
 All-among P [] x h i = absurd i

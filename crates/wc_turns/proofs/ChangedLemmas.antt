@@ -3,7 +3,11 @@ use Rattle.std.proofs.Common.{◌≡◌, ◌≢◌, ◌⊎◌, inl, inr, ℕ, Bo
 use Rattle.std.proofs.lemmas.Bool.Decides.{nat_tests}
 use Rattle.wc_turns.specs.declared.links.LinkState.{LinkState}
 use Rattle.wc_outside.specs.Keyed.{at_key, put_at}
-use Rattle.wc_turns.specs.Links.{Kind, link_number, is_undrained, is_blocked, is_there, kind_of, changed_at, reported_state, drained_state, written_link, standing_state}
+use Rattle.wc_framing.specs.declared.framing.Framing.{Framing}
+use Rattle.wc_framing.specs.declared.framing.Framing.TheVariants as framing
+use Rattle.wc_framing.specs.Framing.{silent}
+use Rattle.wc_turns.specs.Framed.{gone_in}
+use Rattle.wc_turns.specs.Links.{Kind, link_number, is_undrained, is_blocked, is_there, kind_of, changed_at, reported_state, drained_state, written_link, standing_state, gone_frames}
 use Rattle.wc_turns.specs.Steps.{SameTails, SameKinds}
 use Rattle.wc_turns.specs.Tails.{IsTail}
 use Rattle.wc_turns.proofs.KeyedLemmas.{at_key-key, at_key-put_other, at_key-put_same, map-put_at, none_of, or-false, same-keys}
@@ -30,6 +34,9 @@ keeps-written blocked = record { number = λ state. refl; tail = λ state. refl 
 
 pub keeps-standing : KeepsLink standing_state
 keeps-standing = record { number = λ state. refl; tail = λ state. refl }
+
+pub keeps-gone : (count : ℕ) → KeepsLink (gone_frames count)
+keeps-gone count = record { number = λ state. refl; tail = λ state. refl }
 
 changed-by : (j k : ℕ) (t : Bool) → eqb k j ≡ t → (change : LinkState → LinkState) → KeepsLink change → (states : List LinkState) (o : Option LinkState) → at_key link_number j states ≡ o → at_key link_number k (changed_at j change states o) ≡ changed t change (at_key link_number k states)
 changed-by j k true e change keeps states None h =
@@ -70,18 +77,28 @@ pub record KeepsKind (change : LinkState → LinkState) : Type 0 where
   pub server : (state : LinkState) → (change state).server ≡ state.server
   pub connecting : (state : LinkState) → (change state).connecting ≡ state.connecting
   pub refused : (state : LinkState) → (change state).refused ≡ state.refused
+  pub framing : (state : LinkState) → silent (change state).framing ≡ silent state.framing
+  pub ended : (state : LinkState) → (change state).ended ≡ state.ended
 
 pub kind-reported : KeepsKind reported_state
-kind-reported = record { server = λ state. refl; connecting = λ state. refl; refused = λ state. refl }
+kind-reported = record { server = λ state. refl; connecting = λ state. refl; refused = λ state. refl; framing = λ state. refl; ended = λ state. refl }
 
 pub kind-drained : KeepsKind drained_state
-kind-drained = record { server = λ state. refl; connecting = λ state. refl; refused = λ state. refl }
+kind-drained = record { server = λ state. refl; connecting = λ state. refl; refused = λ state. refl; framing = λ state. refl; ended = λ state. refl }
 
 pub kind-written : (blocked : Bool) → KeepsKind (written_link blocked)
-kind-written blocked = record { server = λ state. refl; connecting = λ state. refl; refused = λ state. refl }
+kind-written blocked = record { server = λ state. refl; connecting = λ state. refl; refused = λ state. refl; framing = λ state. refl; ended = λ state. refl }
+
+silent-gone : (count : ℕ) (f : Framing) → silent (gone_in count f) ≡ silent f
+silent-gone count framing.Undecided = refl
+silent-gone count framing.Plain = refl
+silent-gone count (framing.Socket link) = refl
+
+pub kind-gone : (count : ℕ) → KeepsKind (gone_frames count)
+kind-gone count = record { server = λ state. refl; connecting = λ state. refl; refused = λ state. refl; framing = λ state. silent-gone count state.framing; ended = λ state. refl }
 
 kinds-by : (t : Bool) (change : LinkState → LinkState) → KeepsKind change → (o : Option LinkState) → kind_of (changed t change o) ≡ kind_of o
-kinds-by true change keeps (Some state) = rw (keeps.server state, keeps.connecting state, keeps.refused state) refl
+kinds-by true change keeps (Some state) = rw (keeps.server state, keeps.connecting state, keeps.refused state, keeps.framing state, keeps.ended state) refl
 kinds-by true change keeps None = refl
 kinds-by false change keeps o = refl
 
@@ -188,3 +205,21 @@ pub blocked-written : (j k : ℕ) (blocked : Bool) (states : List LinkState) →
 blocked-written j k blocked states there =
     ap is_blocked (at_key-changed j k (written_link blocked) (keeps-written blocked) states)
     ∙ written-blocked blocked (eqb k j) (at_key link_number k states) (λ e b. let same : k ≡ j = grind (arith, nat_tests) in ap (λ i. is_some (at_key link_number i states)) same ∙ there b)
+
+-- ---- frames of a link are sent
+
+gone-undrained : (count : ℕ) (t : Bool) (o : Option LinkState) → is_undrained (changed t (gone_frames count) o) ≡ is_undrained o
+gone-undrained count true (Some state) = refl
+gone-undrained count true None = refl
+gone-undrained count false o = refl
+
+gone-blocked : (count : ℕ) (t : Bool) (o : Option LinkState) → is_blocked (changed t (gone_frames count) o) ≡ is_blocked o
+gone-blocked count true (Some state) = refl
+gone-blocked count true None = refl
+gone-blocked count false o = refl
+
+pub undrained-gone : (j k count : ℕ) (states : List LinkState) → is_undrained (at_key link_number k (changed_at j (gone_frames count) states (at_key link_number j states))) ≡ is_undrained (at_key link_number k states)
+undrained-gone j k count states = ap is_undrained (at_key-changed j k (gone_frames count) (keeps-gone count) states) ∙ gone-undrained count (eqb k j) (at_key link_number k states)
+
+pub blocked-gone : (j k count : ℕ) (states : List LinkState) → is_blocked (at_key link_number k (changed_at j (gone_frames count) states (at_key link_number j states))) ≡ is_blocked (at_key link_number k states)
+blocked-gone j k count states = ap is_blocked (at_key-changed j k (gone_frames count) (keeps-gone count) states) ∙ gone-blocked count (eqb k j) (at_key link_number k states)

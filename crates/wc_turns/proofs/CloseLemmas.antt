@@ -18,15 +18,22 @@ use Rattle.wc_turns.specs.declared.links.Closed.{Closed}
 use Rattle.wc_turns.specs.declared.links.Links.{Links}
 use Rattle.wc_turns.specs.declared.headless.Headless.{Headless}
 use Rattle.wc_turns.specs.Hands.{Delivers}
-use Rattle.wc_turns.specs.Links.{link_number, is_undrained, is_blocked, is_there, with_closed, changed_at, drained_state, written_link}
+use Rattle.wc_framing.specs.declared.framing.Framing.{Framing}
+use Rattle.wc_framing.specs.declared.framing.Framing.TheVariants as framing
+use Rattle.wc_framing.specs.Framing.{is_socket}
+use Rattle.wc_turns.specs.Events.{socket_on}
+use Rattle.wc_turns.specs.Framed.{frames_in}
+use Rattle.wc_turns.specs.Links.{link_number, is_undrained, is_blocked, is_there, with_closed, changed_at, drained_state, written_link, frames_of, is_socket_at}
 use Rattle.wc_turns.specs.Parties.{has_party, unsent_on, closes_asked, asks_of}
-use Rattle.wc_turns.specs.Turns.{AgreesWithSockets, AgreesOnLinks, Moment, moment, point, closed_so_far, OnOneSide, MomentAdvances, LoopStep, IsSettled, has_failed}
+use Rattle.wc_turns.specs.Turns.{AgreesWithSockets, AgreesOnLinks, Moment, moment, point, closed_so_far, OnOneSide, MomentAdvances, LoopStep, IsSettled, has_failed, left_as, left_on}
 use Rattle.wc_turns.proofs.HandsLemmas.{Delivers-stays, Delivers-close}
 use Rattle.wc_turns.proofs.KeyedLemmas.{at_key-without_none, none_of, or-false, same-keys, distinct-without}
 use Rattle.wc_turns.proofs.ChangedLemmas.{keeps-drained, keeps-written, kind-drained, kind-written, numbers-changed, SameTails-changed, SameKinds-changed, undrained-drained, blocked-drained, undrained-written, blocked-written}
 use Rattle.wc_turns.proofs.PointLemmas.{MomentAdvances-none, MomentAdvances-same, spoils-more, gone-nobody, or_left, or_right}
 use Rattle.wc_turns.proofs.RunLemmas.{ReachesEvents-none}
-use Rattle.wc_turns.proofs.AgreesLemmas.{For-states, SameTails-without, SameKinds-without}
+use Rattle.wc_turns.proofs.AgreesLemmas.{For-states, SameKinds-without}
+use Rattle.wc_turns.proofs.HeardLemmas.{plain-before}
+use Rattle.wc_turns.proofs.HeardAgrees.{Hears-states, readings-kinds, socket-kinds, SameTails-without}
 use Rattle.wc_turns.proofs.CauseLemmas.{reasons-same, Onward-none}
 use Rattle.wc_turns.proofs.ForgetLemmas.{forgot, departed-party, departed-closes, forgot-state, and-not-true, and-not-false, closed-seen, forgot-party, forgot-other, forgot-here, forgot-alone, forgot-seats, forgot-order, forgot-sides}
 use Rattle.wc_turns.proofs.GoneLemmas.{some-given, gone-links, gone-closes, gone-wanted, gone-used, gone-quits, gone-starved, gone-verdicts, gone-saved, gone-unwritten, gone-has, gone-state, gone-handed, gone-nothing, gone-seated, gone-order, gone-alone, gone-sides, gone-world, gone-pending, same-unsent}
@@ -35,7 +42,7 @@ use Rattle.wc_turns.proofs.TurnLemmas.{Call, LoopStep-step, LoopStep-still, Neve
 use Rattle.wc_core.proofs.OracleLemmas.{verdicts-same}
 
 -- what the core means stays where the state does
-core-means : (old new : CoreView) (told : Beside) → state_of new told ≡ state_of old told → new.world ≡ old.world → new.pending ≡ old.pending → WereTold old told → Means new (state_of old told)
+pub core-means : (old new : CoreView) (told : Beside) → state_of new told ≡ state_of old told → new.world ≡ old.world → new.pending ≡ old.pending → WereTold old told → Means new (state_of old told)
 core-means old new told state world pending were = record { same = sym state; told = rw (world, pending) were }
 
 -- the sockets gave and sent nothing
@@ -43,10 +50,10 @@ pub LoopStep-quiet : (x : Headless) (a b : Seen) → Call a b [] → (IsTrue b.t
 LoopStep-quiet x a b call sent choked asked same =
     LoopStep-still x x a b call refl refl refl refl refl (λ k h. h) refl refl (inl (refl, refl)) refl
     (among-same x.links.opened.items x.core x.used x.listening x.refused.items a b same)
-    (λ t s. s)
+    (λ t s. s) (λ t history s. s) (λ k e. e)
     (λ t s rows were. MomentAdvances-same rows (moment x a) (moment x b) refl refl (sent t) (choked t) (ap (λ xs. xs ++ asks_of x.core.servers.wanted) (asked t)) [] (call.taken t) [] refl were tt)
 
-SameSets-refl : (a : Seen) → SameSets a a
+pub SameSets-refl : (a : Seen) → SameSets a a
 SameSets-refl a = record { used = refl; there = λ k. refl; undrained = λ k. refl; blocked = λ k. refl; listening = refl }
 
 pub Call-refl : (a : Seen) → Call a a []
@@ -54,6 +61,23 @@ Call-refl a = record { told = λ t. t; taken = λ t. sym (append-nil a.taken); a
 
 pub LoopStep-refl : (x : Headless) (a : Seen) → LoopStep true 0 0 x x a a
 LoopStep-refl x a = LoopStep-quiet x a a (Call-refl a) (λ t k. refl) (λ t k. refl) (λ t. refl) (SameSets-refl a)
+
+-- what is to be sent on a link that is no WebSocket
+frames-none : (o : Option LinkState) → is_socket_at o ≡ false → frames_of o ≡ None
+frames-none None e = refl
+frames-none (Some state) e = by state.framing e
+  where
+    by : (f : Framing) → is_socket f ≡ false → frames_in f ≡ None
+    by framing.Undecided q = refl
+    by framing.Plain q = refl
+    by (framing.Socket link) q = absurd (false≢true (sym q))
+
+pub plain-left : (link : ℕ) (x : Headless) (a : Seen) (s : AgreesWithSockets x a) → IsTrue a.tells → socket_on link a.taken ≡ false → left_on link x ≡ unsent_on link x.core
+plain-left link x a s t plain = by (is_socket_at (at_key link_number link x.links.opened.items)) refl
+  where
+    by : (b : Bool) → is_socket_at (at_key link_number link x.links.opened.items) ≡ b → left_on link x ≡ unsent_on link x.core
+    by true e = absurd (false≢true (sym plain ∙ s.sockets t link e))
+    by false e = ap (λ o. left_as o (unsent_on link x.core)) (frames-none (at_key link_number link x.links.opened.items) e)
 
 -- unsent bytes of a client or a server were sent
 pub LoopStep-sent : (x : Headless) (a b : Seen) (link count : ℕ) (bytes : List ℕ) → Some bytes ≡ unsent_in_core link x.core → Call a b []
@@ -86,14 +110,14 @@ LoopStep-sent x a b link count bytes u call sent choked asked same =
       reached = (let r = t.reached in let q = gone-used link count x.core o in let l = ap length wanted in omega arith);
       limited = (let m = t.limited in let q = gone-used link count x.core o in omega arith);
     })
-    (λ t st. st)
+    (λ t st. st) (λ t history st. st) (λ k e. e)
     (λ t s rows were. MomentAdvances-none rows (moment x a) (moment y b)
     (core-means x.core core rows (gone-state link count x.core o refl rows) (gone-world link count x.core o) (gone-pending link count x.core o) were)
     (gone-quits link count x.core o)
     (λ k. ap (λ q. nat_le k x.used && not q) (gone-has link count k x.core o refl))
     (λ k. rw (call.taken t) (spoils-more k (a.choked k) (b.choked k) a.taken [] (λ e. sym (choked t k) ∙ e)))
-    (λ k. gone-handed k link count x.core o bytes (a.sent k) (b.sent k) refl s.among.alone (some-given link x.core bytes s.among.alone u) (sent t k))
-    (λ k gone. gone-nothing k link count x.core bytes (a.sent k) (b.sent k) u (gone-nobody k x.used x.core gone) (sent t k))
+    (λ k plain. gone-handed k link count x.core o bytes (a.sent k) (b.sent k) refl s.among.alone (some-given link x.core bytes s.among.alone u) (sent t k))
+    (λ k plain gone. gone-nothing k link count x.core bytes (a.sent k) (b.sent k) u (gone-nobody k x.used x.core gone) (sent t k))
     (gone-sides link count x.core o refl)
     (ap (λ xs. xs ++ asks_of core.servers.wanted) (asked t) ∙ ap (λ ws. a.asked ++ asks_of ws) wanted))
 
@@ -169,7 +193,7 @@ used-known k used o unknown some true e = e
 used-known k used o unknown some false e = absurd (let above : used < k = grind (arith, nat_tests) in let none = unknown above in false≢true (sym (ap is_some none) ∙ some))
 
 close-hands : (k j : ℕ) (a b : Moment) (blocked : ℕ → Bool) (t : Bool) → eqb k j ≡ t → b.core ≡ forgot j a.core → b.used ≡ a.used → b.taken ≡ a.taken → b.sent k ≡ a.sent k
-    → b.choked k ≡ (a.choked k || (eqb k j && blocked k)) → has_party j a.core ≡ true → nat_le j a.used ≡ true → (blocked j ≡ false → has_failed j a.taken ≡ false → unsent_on j a.core ≡ [])
+    → b.choked k ≡ (a.choked k || (eqb k j && blocked k)) → has_party j a.core ≡ true → nat_le j a.used ≡ true → (eqb k j ≡ true → blocked j ≡ false → has_failed j a.taken ≡ false → unsent_on j a.core ≡ [])
     → Delivers (point k a) (point k b) []
 close-hands k j a b blocked true e core us tk sent choked there used settled =
     let same : j ≡ k = grind (arith, nat_tests) in
@@ -185,7 +209,7 @@ close-hands k j a b blocked true e core us tk sent choked there used settled =
     (ap (λ n. nat_le k n && not (has_party k b.core)) us ∙ ap (λ q. q && not (has_party k b.core)) low ∙ ap not gone)
     sent
     (λ q. let p = first q in ap (λ c. c || has_failed k a.taken) p.0 ∙ p.1.1)
-    (λ q. let p = first q in ap (λ i. unsent_on i a.core) (sym same) ∙ settled (rw same p.1.0) (rw same p.1.1))
+    (λ q. let p = first q in ap (λ i. unsent_on i a.core) (sym same) ∙ settled e (rw same p.1.0) (rw same p.1.1))
 close-hands k j a b blocked false e core us tk sent choked there used settled =
     let other : k ≢ j = λ q. grind (arith, nat_tests) in
     let kept : b.choked k ≡ a.choked k = choked ∙ ap (λ q. a.choked k || (q && blocked k)) e ∙ or-false (a.choked k) in
@@ -230,16 +254,19 @@ among-close x y d a b one wanted used there undrained listening blocked s =
 -- the link of a client or a server that is leaving is closed
 pub LoopStep-close : (x y : Headless) (d : Departure) (a b : Seen) → departure_in x.core ≡ Some d → ClosesOne x y d → x.core.servers.wanted ≡ [] → Call a b [] → (IsTrue b.tells → (k : ℕ) → b.sent k ≡ a.sent k) → (IsTrue b.tells → (k : ℕ) → b.choked k ≡ (a.choked k || (eqb k d.link.0 && a.blocked k))) → (IsTrue b.tells → b.asked ≡ a.asked)
     → b.used ≡ a.used → ((k : ℕ) → b.there k ≡ (a.there k && not (eqb k d.link.0))) → ((k : ℕ) → b.undrained k ≡ (a.undrained k && not (eqb k d.link.0))) → b.listening ≡ a.listening → ((k : ℕ) → b.blocked k ≡ (a.blocked k && not (eqb k d.link.0)))
-    → (AgreesWithSockets x a → IsSettled d.link.0 x.core a) → LoopStep true 0 0 x y a b
+    → (AgreesWithSockets x a → IsSettled d.link.0 x a) → LoopStep true 0 0 x y a b
 LoopStep-close x y d a b leaving one wanted call sent choked asked used there undrained listening blocked settled =
     let quits : y.core.quits ≡ x.core.quits = ap (λ (c : CoreView). c.quits) one.core in
-    LoopStep-step true 0 0 x y a b [] [] call (λ below. (let e = one.turns in omega arith)) refl refl
+    LoopStep-step true 0 0 x y a b [] [] [] refl call (λ below. (let e = one.turns in omega arith)) refl refl
     (let e = ap (λ (c : CoreView). c.starved) one.core in omega arith) (λ t s same below. closes s ∙ sym (append-nil _)) (λ s. reasons-same x y a b (closes s)) (λ s k h. (sides.servers k h).0) (λ s. Onward-none x.core y.core [] (let e = ap (λ (c : CoreView). c.servers.used) one.core in omega arith) (λ k. refl))
     (λ over. quits ∙ over) (λ t s. saves-as x.core y.core (forgot d.link.0 x.core) one.core refl refl)
     (among-close x y d a b one wanted used there undrained listening blocked)
     (λ t s on. rw (append-nil a.taken, one.clock, one.used, one.ran, one.opened, one.refused, one.unlisted)
-    (For-states x.clock x.links.opened.items (without link_number d.link.0 x.links.opened.items) x.used x.ran x.refused.items x.unlisted a.taken (SameTails-without d.link.0 x.links.opened.items) (SameKinds-without d.link.0 x.links.opened.items) (λ k none. at_key-without_none link_number d.link.0 k x.links.opened.items none)
+    (For-states x.clock x.links.opened.items (without link_number d.link.0 x.links.opened.items) x.used x.ran x.refused.items x.unlisted a.taken (SameKinds-without d.link.0 x.links.opened.items) (λ k none. at_key-without_none link_number d.link.0 k x.links.opened.items none)
     (s.told (call.told t) (sym quits ∙ on))))
+    (λ t s on. rw (append-nil a.taken, append-nil s.history, one.used, one.ran, one.opened)
+    (Hears-states x.links.opened.items (without link_number d.link.0 x.links.opened.items) x.used x.ran a.taken s.history (SameTails-without d.link.0 x.links.opened.items) (readings-kinds x.links.opened.items (without link_number d.link.0 x.links.opened.items) (SameKinds-without d.link.0 x.links.opened.items)) (s.hears (call.told t) (sym quits ∙ on))))
+    (λ t s k e. rw (append-nil a.taken) (s.sockets (call.told t) k (socket-kinds (at_key link_number k x.links.opened.items) (at_key link_number k (without link_number d.link.0 x.links.opened.items)) (SameKinds-without d.link.0 x.links.opened.items k) (rw one.opened at e))))
     (λ s none. ap (λ (c : CoreView). c.servers.wanted) one.core ∙ s.idle (sym one.ran ∙ none))
     (λ t s. record {
       events = [];
@@ -248,9 +275,16 @@ LoopStep-close x y d a b leaving one wanted call sent choked asked used there un
       verdicts = verdicts-same x.core.verdicts y.core.verdicts (ap (λ (c : CoreView). c.verdicts) one.core);
       advances = λ same below rows were agrees. advances t s rows were;
       silent = λ over. refl;
+      ends = tt;
       last = λ same below rows were agrees going over. absurd (false≢true (sym going ∙ sym quits ∙ over));
     })
   where
+    plain-settled : (k : ℕ) → socket_on k b.taken ≡ false → IsTrue b.tells → AgreesWithSockets x a → eqb k d.link.0 ≡ true → a.blocked d.link.0 ≡ false → has_failed d.link.0 a.taken ≡ false → unsent_on d.link.0 x.core ≡ []
+    plain-settled k plain t s e room well =
+        let same : k ≡ d.link.0 = grind (arith, nat_tests) in
+        let here : socket_on d.link.0 a.taken ≡ false = plain-before d.link.0 a.taken [] (ap (socket_on d.link.0) (sym (call.taken t)) ∙ ap (λ n. socket_on n b.taken) (sym same) ∙ plain) in
+        sym (plain-left d.link.0 x a s (call.told t) here) ∙ settled s (call.told t) room well
+
     sides : OnOneSide x.core y.core []
     sides = rw one.core (forgot-sides d.link.0 x.core)
 
@@ -269,9 +303,9 @@ LoopStep-close x y d a b leaving one wanted call sent choked asked used there un
       means = core-means x.core y.core rows (ap (λ c. state_of c rows) one.core ∙ forgot-state x.core d leaving s.among.once s.among.seats s.among.alone rows) (ap (λ (c : CoreView). c.world) one.core) (ap (λ (c : CoreView). c.pending) one.core) were;
       oracle = refl;
       stops = tt;
-      hands = λ k. close-hands k d.link.0 (moment x a) (moment y b) a.blocked (eqb k d.link.0) refl one.core one.used (call.taken t ∙ append-nil a.taken) (sent t k) (choked t k) (departed-party x.core d leaving)
+      hands = λ k plain. close-hands k d.link.0 (moment x a) (moment y b) a.blocked (eqb k d.link.0) refl one.core one.used (call.taken t ∙ append-nil a.taken) (sent t k) (choked t k) (departed-party x.core d leaving)
           (used-known d.link.0 x.used (at_key link_number d.link.0 x.links.opened.items) (s.among.unknown d.link.0) (listed s) (nat_le d.link.0 x.used) refl)
-          (settled s (call.told t));
+          (plain-settled k plain t s);
       sides = sides;
       asks = ap (λ xs. xs ++ asks_of y.core.servers.wanted) (asked t) ∙ ap (λ (c : CoreView). a.asked ++ asks_of c.servers.wanted) one.core ∙ sym (append-nil _);
       closes = refl;

@@ -8,7 +8,7 @@ use Rattle.std.proofs.lemmas.List.{append-nil}
 use Rattle.std.proofs.lemmas.List.Elements.{All-nil, All-cons, All-head, All-tail, All-append}
 use Rattle.wc_text.specs.declared.names.Pair.{Pair}
 use Rattle.wc_text.specs.declared.names.Cause.{Cause}
-use Rattle.wc_text.specs.declared.names.Cause.TheVariants.{Ended, Failed, LoginFailed, Quit}
+use Rattle.wc_text.specs.declared.names.Cause.TheVariants.{Ended, Failed, LoginFailed, Quit, BadSocket}
 use Rattle.wc_outside.specs.Keyed.{at_key, put_at}
 use Rattle.wc_text.specs.declared.names.Handle.{Handle}
 use Rattle.wc_model.specs.World.{World}
@@ -26,7 +26,7 @@ use Rattle.wc_session.specs.Names.{buffer_named}
 use Rattle.wc_options.specs.Options.{OptionsValue}
 use Rattle.wc_session.specs.Heeded.{password_of, masks_of}
 use Rattle.wc_session.specs.Reply.{Answer, silent, replies, leaves as drops, typed_into, shaken, handshake_reply, handshake_answer, init_answer, is_open, served, reply_of}
-use Rattle.wc_core.specs.Events.{Event, Start, Tick, Arrives, Line as LineCame, Stands, Ends, Fails, ListenFails}
+use Rattle.wc_core.specs.Events.{Event, Start, Tick, Arrives, Line as LineCame, Stands, Ends, Fails, Breaks, ListenFails}
 use Rattle.wc_core.specs.ServerSteps.{server_line_step, server_loss_step, stands_step}
 use Rattle.wc_core.specs.ServersKept.{Parting, parts_in}
 use Rattle.wc_servers.specs.Outs.{SendsLine, Connects, Parts, or_else as or_other, part_of}
@@ -57,6 +57,7 @@ IsOf link (LineCame other line) = other ≡ link
 IsOf link (Stands other) = other ≡ link
 IsOf link (Ends other) = other ≡ link
 IsOf link (Fails other) = other ≡ link
+IsOf link (Breaks other) = other ≡ link
 IsOf link (Start moment) = ⊥
 IsOf link (Tick moment) = ⊥
 IsOf link (Arrives other nonce) = ⊥
@@ -188,6 +189,7 @@ step-one link state (Stands other) h =
     served-one link (stands_step state other o) (λ k. stands-closes k state other o)
 step-one link state (Ends other) h = subst (λ k. StepsOne k (step state (Ends other))) h (lost-one other state Ended (at_key client_link other state.clients))
 step-one link state (Fails other) h = subst (λ k. StepsOne k (step state (Fails other))) h (lost-one other state Failed (at_key client_link other state.clients))
+step-one link state (Breaks other) h = subst (λ k. StepsOne k (step state (Breaks other))) h (lost-one other state BadSocket (at_key client_link other state.clients))
 step-one link state (Start moment) h = absurd h
 step-one link state (Tick moment) h = absurd h
 step-one link state (Arrives other nonce) h = absurd h
@@ -212,6 +214,7 @@ step-aside link state (LineCame other line) h none = subst (λ k. at_key client_
 step-aside link state (Stands other) h none = subst (λ k. IsAside k state (step state (Stands other))) h (let o = at_key server_link other state.servers in (stays-stood other state o, λ k. stands-closes k state other o))
 step-aside link state (Ends other) h none = subst (λ k. at_key client_link k state.clients ≡ None → IsAside k state (step state (Ends other))) h (λ e. aside-lost other state Ended (at_key client_link other state.clients) e) none
 step-aside link state (Fails other) h none = subst (λ k. at_key client_link k state.clients ≡ None → IsAside k state (step state (Fails other))) h (λ e. aside-lost other state Failed (at_key client_link other state.clients) e) none
+step-aside link state (Breaks other) h none = subst (λ k. at_key client_link k state.clients ≡ None → IsAside k state (step state (Breaks other))) h (λ e. aside-lost other state BadSocket (at_key client_link other state.clients) e) none
 step-aside link state (Start moment) h none = absurd h
 step-aside link state (Tick moment) h none = absurd h
 step-aside link state (Arrives other nonce) h none = absurd h
@@ -237,6 +240,10 @@ step-missing link state (Ends other) h none nobody =
     let f : at_key server_link other state.servers ≡ None = subst (λ k. at_key server_link k state.servers ≡ None) (sym h) nobody in
     rw (e, f) refl
 step-missing link state (Fails other) h none nobody =
+    let e : at_key client_link other state.clients ≡ None = subst (λ k. at_key client_link k state.clients ≡ None) (sym h) none in
+    let f : at_key server_link other state.servers ≡ None = subst (λ k. at_key server_link k state.servers ≡ None) (sym h) nobody in
+    rw (e, f) refl
+step-missing link state (Breaks other) h none nobody =
     let e : at_key client_link other state.clients ≡ None = subst (λ k. at_key client_link k state.clients ≡ None) (sym h) none in
     let f : at_key server_link other state.servers ≡ None = subst (λ k. at_key server_link k state.servers ≡ None) (sym h) nobody in
     rw (e, f) refl
@@ -338,6 +345,9 @@ stands-of link = All-cons (IsOf link) (Stands link) [] refl (All-nil (IsOf link)
 
 pub failed-of : (link : ℕ) → All (IsOf link) (Fails link ∷ [])
 failed-of link = All-cons (IsOf link) (Fails link) [] refl (All-nil (IsOf link))
+
+pub broken-of : (link : ℕ) → All (IsOf link) (Breaks link ∷ [])
+broken-of link = All-cons (IsOf link) (Breaks link) [] refl (All-nil (IsOf link))
 
 -- ---- causes
 

@@ -32,6 +32,9 @@ use Rattle.wc_turns.specs.Run.{closings}
 use Rattle.wc_turns.specs.Served.{closed_by}
 use Rattle.wc_turns.specs.Steps.{LinkComes, TakesArrival, RefusesArrival, IsRefusal}
 use Rattle.wc_turns.specs.Turns.{AgreesOnLinks, AgreesWithSockets, Moment, moment, point, MomentAdvances, OnOneSide, IsClients, IsServers, CausedBy, HasCause, closed_so_far, LoopStep}
+use Rattle.wc_turns.specs.Heard.{Happened}
+use Rattle.wc_turns.proofs.HeardLemmas.{socket-stays}
+use Rattle.wc_turns.proofs.HeardAgrees.{Hears-came, Hears-refused, socket-came}
 use Rattle.wc_turns.proofs.KeyedLemmas.{or-false, or-true, is_some-push, at_key-push_same, at_key-push_other, absent-missing, distinct-push, map-push}
 use Rattle.wc_turns.proofs.HandsLemmas.{Delivers-stays, Delivers-close}
 use Rattle.wc_turns.proofs.RunLemmas.{ReachesEvents-all}
@@ -176,12 +179,14 @@ pub LoopStep-came : (x y : Headless) (a b : Seen) (link : LinkId) (nonce : List 
     → (IsTrue b.tells → (k : ℕ) → b.sent k ≡ a.sent k) → (IsTrue b.tells → (k : ℕ) → b.choked k ≡ a.choked k) → (IsTrue b.tells → b.asked ≡ a.asked) → ((k : ℕ) → b.there k ≡ (a.there k || eqb link.0 k)) → ((k : ℕ) → b.undrained k ≡ a.undrained k) → ((k : ℕ) → b.blocked k ≡ a.blocked k) → b.listening ≡ a.listening
     → LoopStep true 0 0 x y a b
 LoopStep-came x y a b link nonce comes admits going calm call next used limit sent choked asked there undrained blocked listening =
-    LoopStep-step true 0 0 x y a b (Accepted link nonce ∷ []) [] call (λ below. (let e = comes.turns in omega arith)) refl refl
+    LoopStep-step true 0 0 x y a b (Accepted link nonce ∷ []) (Happened (Accepted link nonce) ∷ []) [] refl call (λ below. (let e = comes.turns in omega arith)) refl refl
     (let e = ap (λ (c : CoreView). c.starved) admits.core in omega arith)
     (λ t s same below. closes s ∙ sym (append-nil _)) (λ s. reasons-same x y a b (closes s)) (λ s k h. ((sides s).servers k h).0) (λ s. arrival-onward x.core y.core link nonce (ap (λ (c : CoreView). c.servers) admits.core) (beyond s) (nobody s))
     (λ over. absurd (false≢true (sym going ∙ over))) (λ t s. saves-as x.core y.core _ admits.core refl refl)
     (λ s. rw (admits.opened, comes.listening, admits.core, comes.used, comes.refused) (among-came x.links.opened.items x.core x.used x.listening x.refused.items a b link nonce calm.asked next used limit there undrained blocked listening s))
-    (λ t s on. rw (comes.clock, admits.opened, comes.refused, comes.unlisted) (For-came x.clock x.links.opened.items x.used y.used x.ran y.ran x.refused.items x.unlisted a.taken link nonce (new_state link None false) (next' s) (comes.used ∙ next' s) refl refl refl comes.ran (s.told (call.told t) going)))
+    (λ t s on. rw (comes.clock, admits.opened, comes.refused, comes.unlisted) (For-came x.clock x.links.opened.items x.used y.used x.ran y.ran x.refused.items x.unlisted a.taken link nonce (new_state link None false) (next' s) (comes.used ∙ next' s) refl refl comes.ran (s.told (call.told t) going)))
+    (λ t s on. rw (admits.opened, comes.used) (Hears-came x.links.opened.items x.used link.0 x.ran y.ran a.taken s.history link nonce (new_state link None false) (s.spells (call.told t)) (next' s) (next' s) refl (record { tail = refl; framing = refl; ended = refl }) refl (s.among.unknown link.0 (let n = next' s in omega arith)) ((s.told (call.told t) going).fresh) comes.ran (s.hears (call.told t) going)))
+    (λ t s k e. socket-stays k a.taken (Accepted link nonce ∷ []) (s.sockets (call.told t) k (socket-came x.links.opened.items (new_state link None false) k refl (rw admits.opened at e))))
     (λ s none. ap (λ (c : CoreView). c.servers.wanted) admits.core ∙ calm.asked)
     (λ t s. record {
       events = Arrives link.0 nonce ∷ [];
@@ -190,6 +195,7 @@ LoopStep-came x y a b link nonce comes admits going calm call next used limit se
       verdicts = verdicts-same x.core.verdicts y.core.verdicts (ap (λ (c : CoreView). c.verdicts) admits.core);
       advances = λ same below rows were agrees. advances t s same below rows were;
       silent = λ over. absurd (false≢true (sym going ∙ over));
+      ends = (tt, tt);
       last = λ same below rows were agrees on over. absurd (false≢true (sym going ∙ sym (ap (λ (c : CoreView). c.quits) admits.core) ∙ over));
     })
   where
@@ -341,11 +347,13 @@ pub LoopStep-refused : (x y : Headless) (a b : Seen) (link : LinkId) (nonce : Li
     → (IsTrue b.tells → (k : ℕ) → b.sent k ≡ a.sent k) → (IsTrue b.tells → (k : ℕ) → b.choked k ≡ false → a.choked k ≡ false) → (IsTrue b.tells → b.asked ≡ a.asked) → ((k : ℕ) → b.there k ≡ ((a.there k || eqb link.0 k) && not (eqb k link.0))) → ((k : ℕ) → b.undrained k ≡ (a.undrained k && not (eqb k link.0))) → ((k : ℕ) → b.blocked k ≡ (a.blocked k && not (eqb k link.0))) → b.listening ≡ a.listening
     → AgreesWithSockets x a → LoopStep true 0 0 x y a b
 LoopStep-refused x y a b link nonce comes r going calm call next used limit sent choked asked there undrained blocked listening s' =
-    LoopStep-step true 0 0 x y a b (Accepted link nonce ∷ []) (closed_by link r.cause) call (λ below. (let e = comes.turns in omega arith)) refl refl
+    LoopStep-step true 0 0 x y a b (Accepted link nonce ∷ []) (Happened (Accepted link nonce) ∷ []) (closed_by link r.cause) refl call (λ below. (let e = comes.turns in omega arith)) refl refl
     r.rises (λ t s same below. closes) (λ s. reasons-more x y a b (closed_by link r.cause) closes (refused-causes link nonce r.cause x y a b r.fits call.taken)) (λ s k h. ((refused-sides x.core link.0 y.core.starved None).servers k (subst (IsServers k) core h)).0) (λ s. arrival-onward x.core y.core link nonce (ap (λ (c : CoreView). c.servers) core) beyond nobody)
     (λ over. absurd (false≢true (sym going ∙ over))) (λ t s. saves-as x.core y.core (refused_core x.core link.0 y.core.starved) core refl refl)
     (λ s. rw (r.opened absent, comes.listening, core, comes.used, comes.refused) (among-refused x.links.opened.items x.core x.used y.core.starved x.listening x.refused.items a b link calm.asked next used limit there undrained blocked listening s))
     (λ t s on. rw (comes.clock, r.opened absent, comes.refused, comes.unlisted) (For-refused x.clock x.links.opened.items x.used y.used x.ran y.ran x.refused.items x.unlisted a.taken link nonce (comes.used ∙ next') comes.ran (s.told (call.told t) going)))
+    (λ t s on. rw (r.opened absent, comes.used) (Hears-refused x.links.opened.items x.used link.0 x.ran y.ran a.taken s.history link nonce (s.spells (call.told t)) next' next' absent comes.ran (s.hears (call.told t) going)))
+    (λ t s k e. socket-stays k a.taken (Accepted link nonce ∷ []) (s.sockets (call.told t) k (rw (r.opened absent) at e)))
     (λ s none. ap (λ (c : CoreView). c.servers.wanted) core ∙ calm.asked)
     (λ t s. record {
       events = Arrives link.0 nonce ∷ [];
@@ -354,6 +362,7 @@ LoopStep-refused x y a b link nonce comes r going calm call next used limit sent
       verdicts = verdicts-same x.core.verdicts y.core.verdicts (ap (λ (c : CoreView). c.verdicts) core);
       advances = λ same below rows were agrees. advances t same below rows were;
       silent = λ over. absurd (false≢true (sym going ∙ over));
+      ends = (tt, tt);
       last = λ same below rows were agrees on over. absurd (false≢true (sym going ∙ sym (ap (λ (c : CoreView). c.quits) core) ∙ over));
     })
   where
@@ -386,7 +395,7 @@ LoopStep-refused x y a b link nonce comes r going calm call next used limit sent
           means = refused-means x.core y.core link.0 rows (step (state_of x.core rows) (Arrives link.0 nonce)).state core (ap (λ p. p.state) stepped) were;
           oracle = ap (λ p. p.state.oracle) stepped;
           stops = (λ q. refl, tt);
-          hands = λ k. rw (acts, refusal-owed k link.0 r.cause)
+          hands = λ k plain. rw (acts, refusal-owed k link.0 r.cause)
               (refused-hands k link.0 y.core.starved (moment x a) (moment y b) (eqb k link.0) refl next' (comes.used ∙ next') nobody core (sent t k) (choked t k) (Accepted link nonce ∷ []) (call.taken t));
           sides = subst (OnOneSide x.core y.core) (sym acts) (subst (λ c. OnOneSide x.core c (refusal link.0 r.cause ++ [])) (sym core) (refused-sides x.core link.0 y.core.starved r.cause));
           asks = ap (λ xs. xs ++ asks_of y.core.servers.wanted) (asked t) ∙ ap (λ (c : CoreView). a.asked ++ asks_of c.servers.wanted) core ∙ sym (append-nil _)
@@ -424,5 +433,5 @@ LoopStep-idle x a b call sent choked asked used there undrained blocked listenin
       reached = s.reached;
       limited = s.limited;
     })
-    (λ t s. s)
+    (λ t s. s) (λ t history s. s) (λ k e. e)
     (λ t s rows were. MomentAdvances-same rows (moment x a) (moment (record x { listening = false }) b) refl refl (sent t) (choked t) (ap (λ xs. xs ++ asks_of x.core.servers.wanted) (asked t)) [] (call.taken t) [] refl were tt)

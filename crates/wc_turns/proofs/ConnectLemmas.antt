@@ -16,6 +16,8 @@ use Rattle.wc_core.specs.ServersKept.{is_wanted, AreNext}
 use Rattle.wc_turns.specs.Parties.{has_party, unsent_on, connect_of, asks_of, closes_asked}
 use Rattle.wc_turns.specs.Steps.{TakesLink}
 use Rattle.wc_turns.specs.Turns.{AgreesWithHappenings, AgreesOnLinks, AgreesWithSockets, moment, point, closed_so_far, LoopStep}
+use Rattle.wc_turns.specs.Turns.{AgreesWithHeard}
+use Rattle.wc_turns.proofs.HeardAgrees.{Hears-asked, socket-came}
 use Rattle.wc_turns.proofs.KeyedLemmas.{or-false, or-true, is_some-push, at_key-push_same, at_key-push_other, absent-missing, distinct-push, map-push}
 use Rattle.wc_turns.proofs.RunLemmas.{ReachesEvents-none}
 use Rattle.wc_turns.proofs.PointLemmas.{OnOneSide-none, MomentAdvances-none}
@@ -67,18 +69,21 @@ pub LoopStep-begun : (x x' y : Headless) (a b : Seen) (wanted : Wanted) (others 
     → b.used ≡ a.used + 1 → (IsTrue b.tells → b.asked ≡ a.asked ++ connect_of wanted ∷ []) → (IsTrue b.tells → (k : ℕ) → b.sent k ≡ a.sent k) → (IsTrue b.tells → (k : ℕ) → b.choked k ≡ a.choked k) → ((k : ℕ) → b.there k ≡ (a.there k || eqb wanted.link.0 k)) → ((k : ℕ) → b.undrained k ≡ a.undrained k) → ((k : ℕ) → b.blocked k ≡ a.blocked k) → b.listening ≡ a.listening
     → LoopStep true 0 0 x y a b
 LoopStep-begun x x' y a b wanted others first same takes call used asked sent choked there undrained blocked listening =
-    LoopStep-ask true 0 0 x y a b [] (wanted.address ∷ []) [] call (λ below. (let e = takes.turns ∙ ap (λ z. z.turns) same in omega arith)) refl refl
+    LoopStep-ask true 0 0 x y a b [] [] (wanted.address ∷ []) [] refl call (λ below. (let e = takes.turns ∙ ap (λ z. z.turns) same in omega arith)) refl refl
     (let e = ap (λ c. c.starved) core in omega arith) (λ t s unstarved below. closes ∙ sym (append-nil _)) (λ s. reasons-same x y a b closes) (λ s k h. rw core at h) (λ s. Onward-none x.core y.core [] (let e = ap (λ c. c.servers.used) core in omega arith) (λ k. refl)) (λ over. ap (λ c. c.quits) core ∙ over) (λ t s. saves-as x.core y.core _ core refl refl)
     among
     (λ t s on. rw (append-nil a.taken) (told-by t s on))
+    (λ t s on. rw (append-nil a.taken, append-nil s.history) (hears-by t s on))
+    (λ t s k e. rw (append-nil a.taken) (s.sockets (call.told t) k (socket-came x.links.opened.items (new_state wanted.link (Some wanted.server) false) k refl (rw opened at e))))
     (λ s none. absurd (begun x a wanted others s first (sym ran ∙ none)))
     (λ t s. record {
       events = [];
       reaches = rw ran (ReachesEvents-none x.core.quits y.core.quits x.ran);
       rises = (let e = ap (λ c. c.starved) core in omega arith);
       verdicts = verdicts-same x.core.verdicts y.core.verdicts (ap (λ c. c.verdicts) core);
-      advances = λ same' below told were agrees. MomentAdvances-none told (moment x a) (moment y b) (means told were) (ap (λ c. c.quits) core) (gone s) (λ k. spoils t k) (λ k. rw (sent t k, unsent k) refl) (λ k e. sent t k) (rw core (OnOneSide-none x.core (record x.core { servers = record x.core.servers { wanted = others } }) refl (λ k e. e) (λ k e. e))) (asks t);
+      advances = λ same' below told were agrees. MomentAdvances-none told (moment x a) (moment y b) (means told were) (ap (λ c. c.quits) core) (gone s) (λ k. spoils t k) (λ k plain. rw (sent t k, unsent k) refl) (λ k plain e. sent t k) (rw core (OnOneSide-none x.core (record x.core { servers = record x.core.servers { wanted = others } }) refl (λ k e. e) (λ k e. e))) (asks t);
       silent = λ over. refl;
+      ends = tt;
       last = λ same' below told were agrees going over. absurd (false≢true (sym going ∙ sym (ap (λ c. c.quits) core) ∙ over));
     })
   where
@@ -105,8 +110,13 @@ LoopStep-begun x x' y a b wanted others first same takes call used asked sent ch
 
     told-by : IsTrue b.tells → AgreesWithSockets x a → y.core.quits ≡ false → AgreesWithHappenings y.clock y.links.opened.items y.used y.ran y.refused.items y.unlisted a.taken
     told-by t s on = rw (takes.clock ∙ ap (λ z. z.clock) same, opened, ran, refused, takes.unlisted ∙ ap (λ z. z.unlisted) same)
-        (For-asked x.clock x.links.opened.items x.used y.used x.ran x.refused.items x.unlisted a.taken wanted.link (new_state wanted.link (Some wanted.server) false) (number s) (count s) refl refl refl (positive x.ran (begun x a wanted others s first))
+        (For-asked x.clock x.links.opened.items x.used y.used x.ran x.refused.items x.unlisted a.taken wanted.link (new_state wanted.link (Some wanted.server) false) (number s) (count s) refl refl (positive x.ran (begun x a wanted others s first))
         (s.told (call.told t) (sym (ap (λ c. c.quits) core) ∙ on)))
+
+    hears-by : IsTrue b.tells → (s : AgreesWithSockets x a) → y.core.quits ≡ false → AgreesWithHeard y.links.opened.items y.used y.ran a.taken s.history
+    hears-by t s on = rw (opened, ran)
+        (Hears-asked x.links.opened.items x.used y.used x.ran a.taken s.history wanted.link (new_state wanted.link (Some wanted.server) false) (s.spells (call.told t)) (number s) (count s) refl (record { tail = refl; framing = refl; ended = refl }) refl ((s.told (call.told t) (sym (ap (λ c. c.quits) core) ∙ on)).fresh)
+        (s.hears (call.told t) (sym (ap (λ c. c.quits) core) ∙ on)))
 
     means : (told : Beside) → WereTold x.core told → Means y.core (state_of x.core told)
     means told were = rw core (record { same = refl; told = were })

@@ -5,12 +5,12 @@ use Rattle.std.proofs.lemmas.Bool.Decides.{nat_tests}
 use Rattle.std.proofs.lemmas.List.{append-nil}
 use Rattle.wc_text.specs.declared.names.LinkId.{LinkId}
 use Rattle.wc_text.specs.declared.names.Cause.{Cause}
-use Rattle.wc_outside.specs.declared.happening.Happening.{Happening}
 use Rattle.wc_outside.specs.Keyed.{at_key, without}
 use Rattle.wc_turns.specs.declared.links.LinkState.{LinkState}
 use Rattle.wc_turns.specs.declared.links.Closed.{Closed}
 use Rattle.wc_turns.specs.declared.headless.Headless.{Headless}
 use Rattle.wc_turns.specs.Contained.{is_known, HasStarved, KeepsLinks}
+use Rattle.wc_turns.specs.Heard.{Heard}
 use Rattle.wc_turns.specs.Links.{link_number, new_state, with_closed}
 use Rattle.wc_turns.specs.Served.{closed_by, closed_number}
 use Rattle.wc_turns.specs.Steps.{LinkComes, TakesArrival, RefusesArrival}
@@ -161,5 +161,5 @@ KeepsLinks-refused x y link nonce comes r next none =
         let here : eqb link.0 k ≡ true = grind (arith, nat_tests) in
         inl (or-here _ _ (ap (λ cs. is_some (at_key closed_number k cs)) (r.closed none ∙ ap (λ o. x.links.closed.items ++ closed_by link o) e) ∙ is_some-push closed_number k (record { link = link; cause = why }) x.links.closed.items ∙ or-here (eqb link.0 k) (is_some (at_key closed_number k x.links.closed.items)) here))
 
-pub KeepsLinks-takes : (x y : Headless) (h : Happening) → TakesHappening x y h → x.core.starved ≤ y.core.starved → KeepsLinks x y
+pub KeepsLinks-takes : (x y : Headless) (h : Heard) → TakesHappening x y h → x.core.starved ≤ y.core.starved → KeepsLinks x y
 KeepsLinks-takes x y h takes rises = KeepsLinks-same x y takes.used rises (λ k. same-keys link_number k y.links.opened.items x.links.opened.items takes.numbers) takes.closed

@@ -130,7 +130,7 @@ seat-left link count seats None e = ap server_unsent_in e ∙ sym (drop_none cou
     drop_none (suc n) (x ∷ xs) q = cc
 seat-left link count seats (Some s) e = ap server_unsent_in (at_key-put_same seat_link link s (record s { unsent = drop count s.unsent }) seats (at_key-key seat_link link seats s e) e)
 
-left-by : (link count : ℕ) (core : CoreView) (o : Option Connection) (bytes : List ℕ) → at_key connection_link link core.connections ≡ o → AreAlone core → unsent_on link core ≡ bytes → unsent_on link (gone_in link count core o) ≡ drop count bytes
+pub left-by : (link count : ℕ) (core : CoreView) (o : Option Connection) (bytes : List ℕ) → at_key connection_link link core.connections ≡ o → AreAlone core → unsent_on link core ≡ bytes → unsent_on link (gone_in link count core o) ≡ drop count bytes
 left-by link count core None bytes e alone u =
     let same : server_unsent_on link core.servers.seats ≡ bytes = ap (λ o. unsent_in o ++ server_unsent_on link core.servers.seats) (sym e) ∙ u in
     ap (λ o. unsent_in o ++ server_unsent_on link (server_gone_at link count core.servers.seats (at_key seat_link link core.servers.seats))) e

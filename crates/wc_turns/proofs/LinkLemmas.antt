@@ -1,6 +1,7 @@
 -- Laws of the links that are open.
 use Rattle.std.proofs.Common.{◌≡◌, ℕ, ◌+◌, ◌≤◌, true, false, List, [], ◌∷◌, ◌++◌, length, Option, Some, None, is_some, refl, sym, ap}
 use Rattle.std.proofs.lemmas.Bool.{false≢true}
+use Rattle.wc_framing.specs.declared.framing.Framing.TheVariants.{Plain}
 use Rattle.wc_turns.specs.declared.links.LinkState.{LinkState}
 use Rattle.wc_turns.specs.declared.links.Closed.{Closed}
 use Rattle.wc_outside.specs.Keyed.{at_key, without, PlaceOf}
@@ -8,7 +9,7 @@ use Rattle.wc_turns.specs.Links.{link_number, with_closed}
 use Rattle.wc_turns.proofs.KeyedLemmas.{length-without, some_of}
 
 pub some_tail : LinkState
-some_tail = record { link = record { 0 = 0 }; server = None; connecting = false; refused = false; tail = record { line = []; over = false }; undrained = false; blocked = false }
+some_tail = record { link = record { 0 = 0 }; server = None; connecting = false; refused = false; tail = record { line = []; over = false }; framing = Plain; ended = false; undrained = false; blocked = false }
 
 -- a place that is not given
 pub missing-place : (k : ℕ) (states : List LinkState) (place : Option ℕ) → PlaceOf link_number k states place → is_some place ≡ false → at_key link_number k states ≡ None

@@ -15,13 +15,13 @@ use Rattle.wc_board.specs.declared.connection.Departure.{Departure}
 use Rattle.wc_board.specs.Connections.{connection_link, leaving_in, leaving_on}
 use Rattle.wc_servers.specs.Seats.{AreApart, seat_link, leaving_in as server_leaving_in, leaving_on as server_leaving_on}
 use Rattle.wc_core.specs.CoreView.{CoreView}
-use Rattle.wc_core.specs.LinksSeen.{departure_in, gone_in}
+use Rattle.wc_core.specs.LinksSeen.{departure_in}
 use Rattle.wc_core.specs.Served.{links_of, or_else, Distinct}
 use Rattle.wc_turns.specs.declared.links.Closed.{Closed}
 use Rattle.wc_turns.specs.declared.links.LinkState.{LinkState}
 use Rattle.wc_turns.specs.declared.headless.Headless.{Headless}
 use Rattle.wc_turns.specs.Contained.{KeepsLinks}
-use Rattle.wc_turns.specs.Links.{Kind, link_number, is_blocked, is_connecting, kind_of, IsStanding, changed_at, written_link}
+use Rattle.wc_turns.specs.Links.{Kind, link_number, is_blocked, is_connecting, kind_of, frames_of, IsStanding, changed_at, written_link}
 use Rattle.wc_turns.specs.Parties.{has_party, party_count, closes_asked}
 use Rattle.wc_turns.specs.Parts.{leaving_of, FailureIgnored, SameParty, SendsOn, ClosesLeaving, SparesOthers, HasFailed}
 use Rattle.wc_turns.specs.Served.{closed_number}
@@ -30,11 +30,10 @@ use Rattle.wc_turns.specs.Steps.{SameKinds}
 use Rattle.wc_turns.specs.Turns.{AgreesWithSockets, HasGained, IsSettled, is_failure, has_failed}
 use Rattle.wc_turns.proofs.KeyedLemmas.{at_key-filter_same, at_key-filter_other, same-keys}
 use Rattle.wc_turns.proofs.CauseLemmas.{gained-following}
-use Rattle.wc_turns.proofs.ChangedLemmas.{keeps-written, kind-written, numbers-changed, SameKinds-changed}
+use Rattle.wc_turns.proofs.ChangedLemmas.{changed, at_key-changed, keeps-written, kind-written, numbers-changed, SameKinds-changed}
 use Rattle.wc_turns.proofs.StepLemmas.{OnlyLinks}
 use Rattle.wc_turns.proofs.ContainedLemmas.{KeepsLinks-refl, KeepsLinks-trans, KeepsLinks-same}
 use Rattle.wc_turns.proofs.ForgetLemmas.{forgot, departed-party, departed-why, departed-all, forgot-here, forgot-other, forgot-fewer, forgot-spares}
-use Rattle.wc_turns.proofs.GoneLemmas.{gone-links, gone-seats, gone-closes, gone-wanted, gone-quits, gone-starved, gone-why, gone-other}
 use Rattle.wc_turns.proofs.SourceLemmas.{Later, NothingBecameReady-refl, NothingBecameReady-trans, TakesNothing-refl, TakesNothing-trans}
 
 -- ---- who is at a link
@@ -83,7 +82,7 @@ without-stand j states k h = stand-by (eqb k j) refl
 -- ---- bytes are sent
 
 pub SendsOn-refl : (link : ℕ) (x : Headless) (a : Seen) → SendsOn link x x a a
-SendsOn-refl link x a = record { falls = NothingBecameReady-refl a; nothing = TakesNothing-refl a; quits = refl; starved = refl; used = refl; numbers = refl; closed = refl; links = refl; servers = refl; wanted = refl; leaving = refl; why = refl; parties = λ k n. SameParty-refl k x.core; blocked = λ k n. refl; stands = λ k h. h }
+SendsOn-refl link x a = record { falls = NothingBecameReady-refl a; nothing = TakesNothing-refl a; quits = refl; starved = refl; used = refl; numbers = refl; closed = refl; links = refl; servers = refl; wanted = refl; leaving = refl; why = refl; parties = λ k n. SameParty-refl k x.core; frames = λ k n. refl; blocked = λ k n. refl; stands = λ k h. h }
 
 pub SendsOn-trans : (link : ℕ) (x y z : Headless) (a b c : Seen) → (IsTrue c.tells → IsTrue b.tells) → SendsOn link x y a b → SendsOn link y z b c → SendsOn link x z a c
 SendsOn-trans link x y z a b c told h g = record {
@@ -100,14 +99,15 @@ SendsOn-trans link x y z a b c told h g = record {
   leaving = g.leaving ∙ h.leaving;
   why = g.why ∙ h.why;
   parties = λ k n. SameParty-trans k x.core y.core z.core (h.parties k n) (g.parties k n);
+  frames = λ k n. g.frames k n ∙ h.frames k n;
   blocked = λ k n. g.blocked k n ∙ h.blocked k n;
   stands = λ k s. g.stands k (h.stands k s);
 }
 
 -- a call that leaves clients and servers as they are
 pub SendsOn-call : (link : ℕ) (x y : Headless) (a b : Seen) → y.core ≡ x.core → y.used ≡ x.used → map link_number y.links.opened.items ≡ map link_number x.links.opened.items → y.links.closed.items ≡ x.links.closed.items → SameKinds x.links.opened.items y.links.opened.items
-    → NothingBecameReady a b → TakesNothing a b → ((k : ℕ) → k ≢ link → b.blocked k ≡ a.blocked k) → SendsOn link x y a b
-SendsOn-call link x y a b core used numbers closed kinds falls nothing blocked = record {
+    → ((k : ℕ) → frames_of (at_key link_number k y.links.opened.items) ≡ frames_of (at_key link_number k x.links.opened.items)) → NothingBecameReady a b → TakesNothing a b → ((k : ℕ) → k ≢ link → b.blocked k ≡ a.blocked k) → SendsOn link x y a b
+SendsOn-call link x y a b core used numbers closed kinds frames falls nothing blocked = record {
   falls = falls;
   nothing = nothing;
   quits = ap (λ c. c.quits) core;
@@ -121,6 +121,7 @@ SendsOn-call link x y a b core used numbers closed kinds falls nothing blocked =
   leaving = ap closes_asked core;
   why = ap (leaving_of link) core;
   parties = λ k n. SameParty-core k x.core y.core core;
+  frames = λ k n. frames k;
   blocked = blocked;
   stands = kinds-stand x.links.opened.items y.links.opened.items kinds;
 }
@@ -128,32 +129,17 @@ SendsOn-call link x y a b core used numbers closed kinds falls nothing blocked =
 pub same-kinds : (states : List LinkState) → SameKinds states states
 same-kinds states = λ k. inr refl
 
--- some bytes were sent
-pub SendsOn-took : (link count : ℕ) (x : Headless) (a b : Seen) (o : Option Connection) → at_key connection_link link x.core.connections ≡ o → NothingBecameReady a b → TakesNothing a b → ((k : ℕ) → k ≢ link → b.blocked k ≡ a.blocked k)
-    → SendsOn link x (record x { core = gone_in link count x.core o }) a b
-SendsOn-took link count x a b o found falls nothing blocked = record {
-  falls = falls;
-  nothing = nothing;
-  quits = gone-quits link count x.core o;
-  starved = gone-starved link count x.core o;
-  used = refl;
-  numbers = refl;
-  closed = refl;
-  links = gone-links link count x.core o found;
-  servers = gone-seats link count x.core o found;
-  wanted = gone-wanted link count x.core o;
-  leaving = gone-closes link count x.core o found;
-  why = gone-why link count x.core o found;
-  parties = λ k n. gone-other link count k x.core o found n;
-  blocked = blocked;
-  stands = λ k h. h;
-}
+pub frames-written : (found t : Bool) (o : Option LinkState) → frames_of (changed t (written_link found) o) ≡ frames_of o
+frames-written found true None = refl
+frames-written found true (Some state) = refl
+frames-written found false o = refl
 
 -- it is kept whether a write to the link found no room
 pub SendsOn-written : (link : ℕ) (found : Bool) (x y : Headless) (a : Seen) → OnlyLinks x y → y.links.opened.items ≡ changed_at link (written_link found) x.links.opened.items (at_key link_number link x.links.opened.items) → SendsOn link x y a a
 SendsOn-written link found x y a only opened =
     SendsOn-call link x y a a only.core only.used (ap (λ ss. map link_number ss) opened ∙ numbers-changed link (written_link found) (keeps-written found) x.links.opened.items) only.closed
-    (rw opened (SameKinds-changed link (written_link found) (keeps-written found) (kind-written found) x.links.opened.items)) (NothingBecameReady-refl a) (TakesNothing-refl a) (λ k n. refl)
+    (rw opened (SameKinds-changed link (written_link found) (keeps-written found) (kind-written found) x.links.opened.items))
+    (λ k. ap (λ ss. frames_of (at_key link_number k ss)) opened ∙ ap frames_of (at_key-changed link k (written_link found) (keeps-written found) x.links.opened.items) ∙ frames-written found (eqb k link) (at_key link_number k x.links.opened.items)) (NothingBecameReady-refl a) (TakesNothing-refl a) (λ k n. refl)
 
 pub KeepsLinks-sends : (link : ℕ) (x y : Headless) (a b : Seen) → SendsOn link x y a b → KeepsLinks x y
 KeepsLinks-sends link x y a b h = KeepsLinks-same x y h.used (let e = h.starved in omega arith) (λ k. same-keys link_number k y.links.opened.items x.links.opened.items h.numbers) h.closed
@@ -182,11 +168,11 @@ pub FailureIgnored-later : (link : ℕ) (x y : Headless) (a b : Seen) → SendsO
 FailureIgnored-later link x y a b h (inl over) = inl (h.quits ∙ over)
 FailureIgnored-later link x y a b h (inr leaves) = inr (λ distinct apart. subst (λ (o : Option Cause). IsSome o) (sym h.why) (leaves (subst Distinct h.links distinct) (subst AreApart h.servers apart)))
 
-pub IsSent-following : (link : ℕ) (core : CoreView) (a b c : Seen) → Later a b → NeverFall a.faults b.faults → (IsTrue c.tells → IsTrue b.tells) → IsSent link core b c → IsSent link core a c
-IsSent-following link core a b c first counts told (inl e) = inl e
-IsSent-following link core a b c first counts told (inr (inl e)) = inr (inl e)
-IsSent-following link core a b c first counts told (inr (inr h)) =
-    inr (inr ((let p = h.0 in let q = counts.links in omega arith), (λ t. gained-following a b c (Failed (record { 0 = link })) first.more (first.taken (told t)) (h.1 t))))
+pub IsSent-following : (link : ℕ) (h : Headless) (a b c : Seen) → Later a b → NeverFall a.faults b.faults → (IsTrue c.tells → IsTrue b.tells) → IsSent link h b c → IsSent link h a c
+IsSent-following link h a b c first counts told (inl e) = inl e
+IsSent-following link h a b c first counts told (inr (inl e)) = inr (inl e)
+IsSent-following link h a b c first counts told (inr (inr f)) =
+    inr (inr ((let p = f.0 in let q = counts.links in omega arith), (λ t. gained-following a b c (Failed (record { 0 = link })) first.more (first.taken (told t)) (f.1 t))))
 
 has-gained : (link : ℕ) (a b : Seen) → HasGained a b (Failed (record { 0 = link })) → has_failed link b.taken ≡ true
 has-gained link a b h = ap (has_failed link) h.taken ∙ list_any-append (is_failure link) a.taken (h.front ++ Failed (record { 0 = link }) ∷ h.rest) ∙ ap (λ t. has_failed link a.taken || t) (list_any-append (is_failure link) h.front (Failed (record { 0 = link }) ∷ h.rest) ∙ found) ∙ or-true (has_failed link a.taken)
@@ -202,18 +188,18 @@ has-gained link a b h = ap (has_failed link) h.taken ∙ list_any-append (is_fai
     found = ap (λ t. list_any (is_failure link) h.front || (t || list_any (is_failure link) h.rest)) here ∙ or-true (list_any (is_failure link) h.front)
 
 -- what was sent as far as may be is settled
-pub IsSettled-sent : (link : ℕ) (core : CoreView) (a b : Seen) → IsSent link core a b → IsSettled link core b
-IsSettled-sent link core a b (inl e) = λ t free fit. e
-IsSettled-sent link core a b (inr (inl e)) = λ t free fit. absurd (false≢true (sym free ∙ e))
-IsSettled-sent link core a b (inr (inr h)) = λ t free fit. absurd (false≢true (sym fit ∙ has-gained link a b (h.1 t)))
+pub IsSettled-sent : (link : ℕ) (h : Headless) (a b : Seen) → IsSent link h a b → IsSettled link h b
+IsSettled-sent link h a b (inl e) = λ t free fit. e
+IsSettled-sent link h a b (inr (inl e)) = λ t free fit. absurd (false≢true (sym free ∙ e))
+IsSettled-sent link h a b (inr (inr f)) = λ t free fit. absurd (false≢true (sym fit ∙ has-gained link a b (f.1 t)))
 
 -- nothing is sent on a link that is kept as one without room
-pub IsSettled-blocked : (link : ℕ) (h : Headless) (a : Seen) → is_blocked (at_key link_number link h.links.opened.items) ≡ true → AgreesWithSockets h a → IsSettled link h.core a
+pub IsSettled-blocked : (link : ℕ) (h : Headless) (a : Seen) → is_blocked (at_key link_number link h.links.opened.items) ≡ true → AgreesWithSockets h a → IsSettled link h a
 IsSettled-blocked link h a blocked s = λ t free fit. absurd (false≢true (sym free ∙ s.among.blocked link ∙ blocked))
 
 -- nothing is to be sent on a link that failed
-pub IsSettled-failed : (link : LinkId) (lost : Option LinkId) (core : CoreView) (a : Seen) → lost ≡ Some link → HasFailed lost a → IsSettled link.0 core a
-IsSettled-failed link lost core a e h = λ t free fit. (let failed = rw e at h in absurd (false≢true (sym fit ∙ failed t)))
+pub IsSettled-failed : (link : LinkId) (lost : Option LinkId) (h : Headless) (a : Seen) → lost ≡ Some link → HasFailed lost a → IsSettled link.0 h a
+IsSettled-failed link lost h a e f = λ t free fit. (let failed = rw e at f in absurd (false≢true (sym fit ∙ failed t)))
 
 -- ---- parting
 

@@ -21,6 +21,7 @@ use Rattle.wc_servers.specs.Seats.{SeatView, AreSeats, AreUsed, links_of as seat
 use Rattle.wc_core.specs.State.{Beside}
 use Rattle.wc_outside.specs.Keyed.{at_key}
 use Rattle.wc_turns.specs.declared.links.Closed.{Closed}
+use Rattle.wc_turns.specs.Events.{socket_on}
 use Rattle.wc_turns.specs.Hands.{Delivers}
 use Rattle.wc_turns.specs.Parties.{has_party, unsent_on, owed_by, owed_to, connect_of, asks_of, asks_in}
 use Rattle.wc_turns.specs.Run.{closings, EndsAtQuit}
@@ -270,7 +271,7 @@ MomentAdvances-takes told a b closed events did links used keep seats above part
   oracle = did.oracle;
   stops = stops;
   sides = OnOneSide-takes told a.core b.core events did links keep seats alone' above;
-  hands = λ k.
+  hands = λ k plain.
       let keeps = same-keys connection_link k b.core.connections a.core.connections links in
       let acts = (run (state_of a.core told) events).acts in
       let bytes : unsent_on k b.core ≡ unsent_on k a.core ++ owed_to k acts =
@@ -318,7 +319,7 @@ MomentAdvances-comes told a b closed events used means oracle owed sides bytes g
   oracle = oracle;
   sides = sides;
   stops = stops;
-  hands = λ k. rw (owed k)
+  hands = λ k plain. rw (owed k)
       (Delivers-stays (point k a) (point k b) []
       (rw used (gone k))
       (rw taken (spoils-more k (a.choked k) (b.choked k) a.taken more (λ e. sym (choked k) ∙ e)))
@@ -332,13 +333,13 @@ MomentAdvances-comes told a b closed events used means oracle owed sides bytes g
 
 -- nothing is owed, and what is handed to each link stays the same
 pub MomentAdvances-none : (told : Beside) (a b : Moment) → Means b.core (state_of a.core told) → b.core.quits ≡ a.core.quits → ((k : ℕ) → (point k b).gone ≡ (point k a).gone) → ((k : ℕ) → (point k b).spoiled ≡ false → (point k a).spoiled ≡ false)
-    → ((k : ℕ) → (point k b).sent ++ (point k b).unsent ≡ (point k a).sent ++ (point k a).unsent) → ((k : ℕ) → (point k a).gone ≡ true → b.sent k ≡ a.sent k) → OnOneSide a.core b.core [] → b.asked ≡ a.asked → MomentAdvances told a b [] []
+    → ((k : ℕ) → socket_on k b.taken ≡ false → (point k b).sent ++ (point k b).unsent ≡ (point k a).sent ++ (point k a).unsent) → ((k : ℕ) → socket_on k b.taken ≡ false → (point k a).gone ≡ true → b.sent k ≡ a.sent k) → OnOneSide a.core b.core [] → b.asked ≡ a.asked → MomentAdvances told a b [] []
 MomentAdvances-none told a b means quits gone spoils bytes sent sides asked = record {
   means = means;
   oracle = refl;
   sides = sides;
   stops = tt;
-  hands = λ k. Delivers-stays (point k a) (point k b) [] (gone k) (spoils k) (bytes k ∙ sym (append-nil _)) (sent k) (λ e. refl);
+  hands = λ k plain. Delivers-stays (point k a) (point k b) [] (gone k) (spoils k) (bytes k plain ∙ sym (append-nil _)) (sent k plain) (λ e. refl);
   asks = asked ∙ sym (append-nil a.asked);
   closes = refl;
   quits = quits ∙ sym (or-false a.core.quits);
@@ -360,7 +361,7 @@ MomentAdvances-same told a b core used sent choked asked more taken events none 
       means = means-stays told a.core b.core (run (state_of a.core told) events) core none were;
       oracle = ap (λ s. s.state.oracle) none;
       stops = stops;
-      hands = λ k. subst (λ done. Delivers (point k a) (point k b) (owed_to k done)) (sym acts)
+      hands = λ k plain. subst (λ done. Delivers (point k a) (point k b) (owed_to k done)) (sym acts)
           (Delivers-stays (point k a) (point k b) [] (rw (used, core) refl) (rw taken (spoils-more k (a.choked k) (b.choked k) a.taken more (λ e. sym (choked k) ∙ e)))
           (rw (core, sent k) (sym (append-nil _))) (λ e. sent k) (λ e. refl));
       sides = subst (λ done. OnOneSide a.core b.core done) (sym acts) (rw core (OnOneSide-none a.core a.core refl (λ k e. e) (λ k e. e)));

@@ -16,21 +16,23 @@ use Rattle.wc_core.specs.CoreView.{CoreView}
 use Rattle.wc_core.specs.Served.{or_else, KeepsClients, Distinct, links_of}
 use Rattle.wc_core.specs.ServersKept.{is_wanted, LosesServer}
 use Rattle.wc_turns.specs.declared.headless.Headless.{Headless}
-use Rattle.wc_turns.specs.Events.{tail_on, events_of}
-use Rattle.wc_turns.specs.Links.{link_number, is_undrained, is_connecting}
+use Rattle.wc_turns.specs.Events.{has_come, socket_on, tail_as, text_of_read, came_events, happening_events, events_of, end_events}
+use Rattle.wc_turns.specs.Heard.{Heard, Happened, Unframed, NotPut, happened, happenings, SocketEnd, GoesOn, Closes, Broken}
+use Rattle.wc_turns.specs.Links.{link_number, is_undrained, is_connecting, is_socket_at}
 use Rattle.wc_turns.specs.Parties.{has_party, party_count, IsCalm}
 use Rattle.wc_turns.specs.Parts.{leaving_of, Settles, ReadsOn}
-use Rattle.wc_turns.specs.Served.{LeavesAtLine}
+use Rattle.wc_turns.specs.Served.{LeavesAtRead}
 use Rattle.wc_turns.specs.Sources.{NothingBecameReady, TakesNothing, bytes_taken, arrivals}
 use Rattle.wc_turns.specs.Steps.{LosesLink}
-use Rattle.wc_turns.specs.Turns.{AgreesWithSockets, CausedBy, LoopStep, TakesHappening, is_wake, is_listen_fault}
+use Rattle.wc_turns.specs.Turns.{AgreesWithSockets, CausedBy, LoopStep, TakesHappening, TakesRead, is_wake, is_listen_fault, wake_count, listen_faults}
 use Rattle.wc_turns.proofs.KeyedLemmas.{none_of, same-keys}
 use Rattle.wc_turns.proofs.PointLemmas.{or_left, sides-kept}
 use Rattle.wc_turns.proofs.TurnLemmas.{Call}
 use Rattle.wc_turns.proofs.StepLemmas.{SameSets}
 use Rattle.wc_turns.proofs.SeatLemmas.{loses-keeps, loses-shut}
-use Rattle.wc_turns.proofs.ClosingLemmas.{IsOf, read-of, stands-of}
-use Rattle.wc_turns.proofs.TakesLemmas.{LoopStep-takes, causes-line, causes-lost, none-arrives, causes-stands}
+use Rattle.wc_turns.proofs.ClosingLemmas.{IsOf, read-of, ended-of, stands-of, broken-of}
+use Rattle.std.proofs.lemmas.List.Elements.{All-nil, All-append}
+use Rattle.wc_turns.proofs.TakesLemmas.{LoopStep-takes, causes-read, causes-lost, none-arrives, causes-stands}
 use Rattle.wc_turns.proofs.SourceLemmas.{NothingBecameReady-refl, NothingBecameReady-trans, NothingBecameReady-same, bytes_taken-append, arrivals-append}
 use Rattle.wc_board.specs.Served.{StaysOrStarves}
 use Rattle.wc_turns.specs.declared.links.LinkState.{LinkState}
@@ -103,31 +105,54 @@ pub record Gave (a b : Seen) (h : Happening) : Type 0 where
   pub asked : IsTrue b.tells → b.asked ≡ a.asked
   pub same : SameSets a b
 
+-- the events of a read are those of its link
+ends-of : (link : ℕ) (end : SocketEnd) → All (IsOf link) (end_events link end)
+ends-of link GoesOn = All-nil (IsOf link)
+ends-of link Closes = ended-of link
+ends-of link Broken = broken-of link
+
+came-of : (link : LinkId) (bytes text : List ℕ) (history : List Heard) → All (IsOf link.0) (came_events link history bytes text)
+came-of link bytes text history =
+    let socket = socket_on link.0 (happenings history ++ Read link bytes ∷ []) in
+    read-of link.0 (tail_as socket link.0 history) (text_of_read socket bytes text)
+
+heard-of : (link : LinkId) (bytes : List ℕ) (history : List Heard) (h : Heard) → happened h ≡ Read link bytes ∷ [] → All (IsOf link.0) (events_of history h)
+heard-of link bytes history (Happened h) e = let same : h ≡ Read link bytes = cc e in rw same (came-of link bytes [] history)
+heard-of link bytes history (Unframed other bs text end) e =
+    let q : Read other bs ≡ Read link bytes = cc e in
+    let same : other ≡ link = cc q in
+    rw same (All-append (IsOf link.0) (came_events link history bs text) (end_events link.0 end) (came-of link bs text history) (ends-of link.0 end))
+heard-of link bytes history (NotPut other) e = absurd (cc e)
+
 -- bytes were read and served
-pub LoopStep-read : (x y : Headless) (link : LinkId) (bytes : List ℕ) (a b : Seen) → Gave a b (Read link bytes) → IsCalm x.core → x.core.quits ≡ false → TakesHappening x y (Read link bytes) → LeavesAtLine link.0 x.core y.core → LoopStep true 0 0 x y a b
-LoopStep-read x y link bytes a b gave calm going takes causes =
-    LoopStep-takes x y link a b (Read link bytes) refl gave.call gave.sent gave.choked gave.asked gave.same calm going takes causes.rises
-    (λ taken. read-of link.0 (tail_on link.0 taken) bytes)
-    (λ s. causes-line link bytes x y a b calm causes gave.call.taken s.among.once (takes.servers.seats s.among.seats) (sides-kept x.core y.core takes.servers)) causes.saves
+pub LoopStep-read : (x y : Headless) (link : LinkId) (bytes : List ℕ) (a b : Seen) → Gave a b (Read link bytes) → IsCalm x.core → x.core.quits ≡ false → TakesRead x y link bytes → LeavesAtRead (is_socket_at (at_key link_number link.0 y.links.opened.items)) link.0 x.core y.core → LoopStep true 0 0 x y a b
+LoopStep-read x y link bytes a b gave calm going read causes =
+    let takes = read.takes in
+    let wake : wake_count (happened read.heard) ≡ 0 = ap wake_count read.read in
+    let faults : listen_faults (happened read.heard) ≡ 0 = ap listen_faults read.read in
+    let socket = is_socket_at (at_key link_number link.0 y.links.opened.items) in
+    let is : AgreesWithSockets x a → socket ≡ true → IsTrue b.tells → socket_on link.0 b.taken ≡ true = λ s e t. ap (socket_on link.0) (gave.call.taken t ∙ ap (λ hs. a.taken ++ hs) (sym read.read)) ∙ takes.sockets a.taken s.history (s.spells (gave.call.told t)) (s.hears (gave.call.told t) going) link.0 e in
+    LoopStep-takes x y link a b read.heard 0 wake faults (subst (Call a b) (sym read.read) gave.call) gave.sent gave.choked gave.asked gave.same calm going takes causes.rises
+    (λ history. heard-of link bytes history read.heard read.read) (λ k. ap (has_come k) read.read)
+    (λ s. causes-read socket link bytes x y a b calm causes gave.call.taken (is s) s.among.once (takes.servers.seats s.among.seats) (sides-kept x.core y.core takes.servers)) causes.saves
 
 pub ReadsOn-read : (x y : Headless) (link : LinkId) (bytes : List ℕ) (a b c : Seen) → Gave a b (Read link bytes) → (IsTrue c.tells → IsTrue b.tells) → Settles x y b c → ReadsOn link.0 a c
 ReadsOn-read x y link bytes a b c gave told settles =
     ReadsOn-settles link.0 x y a b c told (ReadsOn-call link.0 a b (Read link bytes ∷ []) (NothingBecameReady-same a b gave.same.undrained gave.same.listening) gave.call.taken (other-bytes link bytes) refl) settles
 
 -- a link was lost
-pub LoopStep-lost : (x y : Headless) (link : LinkId) (h : Happening) (why : Cause) (a b : Seen) → Gave a b h → is_wake h ≡ 0 → is_listen_fault h ≡ 0 → IsCalm x.core → x.core.quits ≡ false → TakesHappening x y h → ((taken : List Happening) → All (IsOf link.0) (events_of taken h))
+pub LoopStep-lost : (x y : Headless) (link : LinkId) (h : Happening) (why : Cause) (a b : Seen) → Gave a b h → is_wake h ≡ 0 → is_listen_fault h ≡ 0 → IsCalm x.core → x.core.quits ≡ false → TakesHappening x y (Happened h) → ((history : List Heard) → All (IsOf link.0) (happening_events history h))
     → LosesLink link.0 why x.core y.core → CausedBy why link.0 a b → LoopStep true 0 0 x y a b
 LoopStep-lost x y link h why a b gave wake listen calm going takes of loses cause =
-    subst (λ n. LoopStep true 0 n x y a b) listen
-    (LoopStep-takes x y link a b h wake gave.call gave.sent gave.choked gave.asked gave.same calm going takes loses.keeps.rises of
-    (λ s. causes-lost link why x y a b h calm loses s.among.once (takes.servers.seats s.among.seats) (sides-kept x.core y.core takes.servers) gave.call.taken (λ k. none-arrives link k h (of [])) cause) loses.keeps.saves)
+    LoopStep-takes x y link a b (Happened h) 0 (omega arith) (omega arith) gave.call gave.sent gave.choked gave.asked gave.same calm going takes loses.keeps.rises of (λ k. none-arrives link k h (of []))
+    (λ s. causes-lost link why x y a b (h ∷ []) calm loses s.among.once (takes.servers.seats s.among.seats) (sides-kept x.core y.core takes.servers) gave.call.taken (λ k. none-arrives link k h (of [])) cause) loses.keeps.saves
 
 -- a connection stands
-pub LoopStep-stood : (x y : Headless) (link : LinkId) (a b : Seen) → Gave a b (Connected link) → IsCalm x.core → x.core.quits ≡ false → TakesHappening x y (Connected link) → KeepsClients x.core y.core
+pub LoopStep-stood : (x y : Headless) (link : LinkId) (a b : Seen) → Gave a b (Connected link) → IsCalm x.core → x.core.quits ≡ false → TakesHappening x y (Happened (Connected link)) → KeepsClients x.core y.core
     → (Distinct (links_of x.core) → (k : ℕ) → StaysOrStarves (leaving_on k x.core.connections) (leaving_on k y.core.connections)) → LoopStep true 0 0 x y a b
 LoopStep-stood x y link a b gave calm going takes keeps stays =
-    LoopStep-takes x y link a b (Connected link) refl gave.call gave.sent gave.choked gave.asked gave.same calm going takes keeps.rises
-    (λ taken. stands-of link.0)
+    LoopStep-takes x y link a b (Happened (Connected link)) 0 refl refl gave.call gave.sent gave.choked gave.asked gave.same calm going takes keeps.rises
+    (λ history. stands-of link.0) (λ k. refl)
     (λ s. causes-stands x y a b (Connected link ∷ []) calm keeps.links s.among.once (takes.servers.seats s.among.seats) (sides-kept x.core y.core takes.servers) gave.call.taken (λ k. refl) (stays s.among.once)) keeps.saves
 
 -- one that does not stand is there

@@ -3,7 +3,7 @@ use Rattle.std.proofs.Common.{◌≡◌, ℕ, ◌+◌, ◌-◌, ◌^◌, ◌<◌
 use Rattle.std.proofs.lemmas.Bool.{false≢true}
 use Rattle.std.proofs.lemmas.List.{append-nil, length-append}
 use Rattle.std.proofs.lemmas.Grind.{common_steps, flat_map-append}
-use Rattle.wc_outside.specs.declared.happening.Happening.{Happening}
+use Rattle.wc_turns.specs.Heard.{Heard}
 use Rattle.wc_core.specs.Events.{Event}
 use Rattle.wc_core.specs.State.{State, Act, has_end}
 use Rattle.wc_core.specs.Step.{step, run}
@@ -26,12 +26,12 @@ pub closings-append : (acts others : List Act) → closings (acts ++ others) ≡
 closings-append acts others = flat_map-append act_closes acts others
 
 -- what happens at the end adds its events
-pub events_from-push : (before happenings : List Happening) (h : Happening)
-    → events_from before (happenings ++ h ∷ []) ≡ events_from before happenings ++ events_of (before ++ happenings) h
+pub events_from-push : (before history : List Heard) (h : Heard)
+    → events_from before (history ++ h ∷ []) ≡ events_from before history ++ events_of (before ++ history) h
 events_from-push before [] h = grind (arith, common_steps)
 events_from-push before (g ∷ gs) h = grind (arith, common_steps, events_from-push (before ++ g ∷ []) gs h)
 
-pub events_from-append : (before xs ys : List Happening)
+pub events_from-append : (before xs ys : List Heard)
     → events_from before (xs ++ ys) ≡ events_from before xs ++ events_from (before ++ xs) ys
 events_from-append before [] ys = grind (arith, common_steps)
 events_from-append before (x ∷ xs) ys = grind (arith, common_steps, events_from-append (before ++ x ∷ []) xs ys)

@@ -5,11 +5,13 @@ use Rattle.wc_outside.specs.Seen.{Seen}
 use Rattle.wc_outside.specs.declared.happening.Happening.{Happening}
 use Rattle.wc_core.specs.CoreView.{CoreView}
 use Rattle.wc_core.specs.Served.{KeepsSaved, unwritten_of}
+use Rattle.wc_turns.specs.Heard.{Heard}
 use Rattle.wc_turns.specs.declared.headless.Headless.{Headless}
 use Rattle.wc_turns.specs.declared.links.Closed.{Closed}
 use Rattle.wc_turns.specs.declared.turn.TurnEnd.{TurnEnd}
 use Rattle.wc_turns.specs.declared.turn.TurnEnd.TheVariants.{GoOn, Quit, WaitFault, ListenFault, KeeperFault}
 use Rattle.wc_turns.specs.Saves.{held_by, WritesText, SavesTurn, written_state}
+use Rattle.wc_turns.specs.Sources.{IsWritten}
 use Rattle.wc_turns.specs.Turns.{AgreesWithSockets, LoopStep, CoreTakes, ClosesExactly, FaultsIn, moment, waits_then, faults_then}
 use Rattle.wc_turns.specs.Waits.{LosesNone}
 use Rattle.wc_turns.proofs.TurnLemmas.{LoopStep-as}
@@ -40,12 +42,16 @@ agrees-written h seen s =
         reached = a.reached;
         limited = a.limited;
       };
+      history = s.history;
+      spells = s.spells;
       told = s.told;
+      hears = s.hears;
+      sockets = s.sockets;
       idle = s.idle;
     }
 
-takes-written : (x h : Headless) (a b : Seen) (ran ran' : ℕ) (closed : List Closed) (more : List Happening) → CoreTakes (moment x a) (moment h b) ran ran' closed more → CoreTakes (moment x a) (moment (written_state h) b) ran ran' closed more
-takes-written x h a b ran ran' closed more c = record {
+takes-written : (x h : Headless) (a b : Seen) (ran ran' : ℕ) (past : List Heard) (closed : List Closed) (more : List Heard) → CoreTakes past (moment x a) (moment h b) ran ran' closed more → CoreTakes past (moment x a) (moment (written_state h) b) ran ran' closed more
+takes-written x h a b ran ran' past closed more c = record {
   events = c.events;
   reaches = c.reaches;
   rises = c.rises;
@@ -54,17 +60,23 @@ takes-written x h a b ran ran' closed more c = record {
       let m = c.advances same below told were agrees in
       record { means = record { same = m.means.same; told = m.means.told }; oracle = m.oracle; stops = m.stops; hands = m.hands; sides = record { clients = m.sides.clients; servers = m.sides.servers }; asks = m.asks; closes = m.closes; quits = m.quits };
   silent = c.silent;
+  ends = c.ends;
   last = c.last;
 }
 
 pub step-written : {n f : ℕ} (x h : Headless) (a b : Seen) → LoopStep false n f x h a b → LoopStep false n f x (written_state h) a b
-step-written x h a b s = LoopStep-as x h (written_state h) a b refl refl refl refl (λ over. over) (agrees-written h b) (λ closed more. takes-written x h a b x.ran h.ran closed more) s
+unfolding agrees-written
+step-written x h a b s = LoopStep-as x h (written_state h) a b refl refl refl refl (λ over. over) (λ s. (agrees-written h b s, refl)) (λ past closed more. takes-written x h a b x.ran h.ran past closed more) s
 
 pub closes-written : (x h : Headless) (a b : Seen) → ClosesExactly x h a b → ClosesExactly x (written_state h) a b
-closes-written x h a b c = record { gained = c.gained; taken = c.taken; events = c.events; reaches = c.reaches; closed = c.closed }
+closes-written x h a b c = record { history = c.history; spells = c.spells; heard = c.heard; taken = c.taken; ends = c.ends; events = c.events; reaches = c.reaches; closed = c.closed }
 
 pub loses-written : (x h : Headless) → LosesNone x h → LosesNone x (written_state h)
 loses-written x h l = record { opened = l.opened; came = l.came }
+
+pub sent-written : (link : ℕ) (h : Headless) (seen : Seen) → IsWritten link h seen → IsWritten link (written_state h) seen
+sent-written link h seen (inl clear) = inl (record { left = clear.left; put = clear.put })
+sent-written link h seen (inr blocked) = inr blocked
 
 -- ---- the turn
 

@@ -19,10 +19,12 @@ use Rattle.wc_core.specs.CoreView.{CoreView}
 use Rattle.wc_turns.specs.declared.headless.Headless.{Headless}
 use Rattle.wc_turns.specs.declared.links.LinkState.{LinkState}
 use Rattle.wc_turns.specs.Contained.{KeepsLinks}
-use Rattle.wc_turns.specs.Links.{link_number, is_undrained, is_blocked}
+use Rattle.wc_turns.specs.Framed.{frames_in}
+use Rattle.wc_turns.specs.Links.{link_number, is_undrained, is_blocked, frames_of, is_socket_at}
+use Rattle.wc_framing.proofs.MessagesLemmas.{none_short}
 use Rattle.wc_turns.specs.Parties.{unsent_on, IsCalm}
-use Rattle.wc_turns.specs.Sources.{bytes_taken, arrivals, NothingBecameReady, IsServed, IsHeard, IsWritten, IsSent, AllServed, AllSent, ServesNamed, TakesWithin, TakesNothing, has_flag, may_write, may_write_seat, may_write_on, is_left_over}
-use Rattle.wc_turns.specs.Turns.{AgreesWithSockets, LoopStep, faults_of}
+use Rattle.wc_turns.specs.Sources.{bytes_taken, arrivals, NothingBecameReady, IsServed, IsHeard, IsPutWhere, IsClear, IsWritten, IsSent, AllServed, AllSent, ServesNamed, TakesWithin, TakesNothing, has_flag, may_write, may_write_seat, may_write_these, may_write_frames, may_write_on, is_left_over}
+use Rattle.wc_turns.specs.Turns.{AgreesWithSockets, LoopStep, faults_of, left_as, left_on}
 use Rattle.wc_turns.proofs.KeyedLemmas.{at_key-key}
 use Rattle.wc_turns.proofs.CauseLemmas.{gained-later, gained-following}
 use Rattle.wc_turns.proofs.ContainedLemmas.{KeepsLinks-refl, KeepsLinks-trans}
@@ -125,24 +127,57 @@ both-false : (a b : Bool) → (a || b) ≡ false → (a ≡ false) × (b ≡ fal
 both-false true b e = absurd (false≢true (sym e))
 both-false false b e = (refl, e)
 
--- what holds of a link without unsent bytes, and of one without room for them, holds of one that is passed over
-passed : (states : List LinkState) (k : ℕ) (core : CoreView) (P : Type 0) → (unsent_on k core ≡ [] → P) → (is_blocked (at_key link_number k states) ≡ true → P) → may_write_on k states core ≡ false → P
-passed states k core P empty blocked e =
-    let parts = both-false (has_flag (may_write states) (at_key connection_link k core.connections)) (has_flag (may_write_seat states) (at_key seat_link k core.servers.seats)) e in
-    by (passed-client states k core.connections (at_key connection_link k core.connections) refl parts.0) (passed-seat states k core.servers.seats (at_key seat_link k core.servers.seats) refl parts.1)
+-- frames that are passed over: there are none, or there is no room for them
+passed-frames : (o : Option LinkState) → has_flag may_write_frames o ≡ false → (frames_of o ≡ None) ⊎ ((frames_of o ≡ Some []) ⊎ (is_blocked o ≡ true))
+passed-frames None e = inl refl
+passed-frames (Some state) e = by (frames_in state.framing) refl state.blocked refl e
   where
-    by : (unsent_in (at_key connection_link k core.connections) ≡ []) ⊎ (is_blocked (at_key link_number k states) ≡ true) → (server_unsent_in (at_key seat_link k core.servers.seats) ≡ []) ⊎ (is_blocked (at_key link_number k states) ≡ true) → P
-    by (inl p) (inl q) = empty (ap (λ xs. xs ++ server_unsent_in (at_key seat_link k core.servers.seats)) p ∙ q)
-    by (inl p) (inr q) = blocked q
-    by (inr p) q = blocked p
+    sent : (frames : List ℕ) → not (eqb (length frames) 0) ≡ false → frames ≡ []
+    sent frames q = no-bytes frames (not-zero (length frames) q)
+
+    by : (frames : Option (List ℕ)) → frames_in state.framing ≡ frames → (blocked : Bool) → state.blocked ≡ blocked → may_write_these state.blocked (frames_in state.framing) ≡ false → (frames_in state.framing ≡ None) ⊎ ((frames_in state.framing ≡ Some []) ⊎ (state.blocked ≡ true))
+    by None f blocked g q = inl f
+    by (Some frames) f true g q = inr (inr g)
+    by (Some frames) f false g q = inr (inl (f ∙ ap Some (sent frames (rw (f, g) at q))))
+
+-- nothing is left to be sent on a link without unsent bytes and without frames
+clear : (k : ℕ) (h : Headless) → unsent_on k h.core ≡ [] → (frames_of (at_key link_number k h.links.opened.items) ≡ None) ⊎ (frames_of (at_key link_number k h.links.opened.items) ≡ Some []) → IsClear k h
+clear k h none frames = record { left = left frames; put = put (is_socket_at (at_key link_number k h.links.opened.items)) }
+  where
+    left : (frames_of (at_key link_number k h.links.opened.items) ≡ None) ⊎ (frames_of (at_key link_number k h.links.opened.items) ≡ Some []) → left_on k h ≡ []
+    left (inl e) = ap (λ o. left_as o (unsent_on k h.core)) e ∙ none
+    left (inr e) = ap (λ o. left_as o (unsent_on k h.core)) e
+
+    put : (socket : Bool) → IsPutWhere socket (unsent_on k h.core)
+    put true = rw none (none_short [] (omega arith))
+    put false = tt
+
+-- what holds of a link on which nothing is left to be sent, and of one without room, holds of one that is passed over
+passed : (k : ℕ) (h : Headless) (P : Type 0) → (IsClear k h → P) → (is_blocked (at_key link_number k h.links.opened.items) ≡ true → P) → may_write_on k h.links.opened.items h.core ≡ false → P
+passed k h P empty blocked e =
+    let states = h.links.opened.items in
+    let client = has_flag (may_write states) (at_key connection_link k h.core.connections) in
+    let seat = has_flag (may_write_seat states) (at_key seat_link k h.core.servers.seats) in
+    let framed = has_flag may_write_frames (at_key link_number k states) in
+    let parts = both-false (client || seat) framed e in
+    let parties = both-false client seat parts.0 in
+    by (passed-client states k h.core.connections (at_key connection_link k h.core.connections) refl parties.0) (passed-seat states k h.core.servers.seats (at_key seat_link k h.core.servers.seats) refl parties.1) (passed-frames (at_key link_number k states) parts.1)
+  where
+    by : (unsent_in (at_key connection_link k h.core.connections) ≡ []) ⊎ (is_blocked (at_key link_number k h.links.opened.items) ≡ true) → (server_unsent_in (at_key seat_link k h.core.servers.seats) ≡ []) ⊎ (is_blocked (at_key link_number k h.links.opened.items) ≡ true)
+        → (frames_of (at_key link_number k h.links.opened.items) ≡ None) ⊎ ((frames_of (at_key link_number k h.links.opened.items) ≡ Some []) ⊎ (is_blocked (at_key link_number k h.links.opened.items) ≡ true)) → P
+    by (inr p) q r = blocked p
+    by (inl p) (inr q) r = blocked q
+    by (inl p) (inl q) (inr (inr r)) = blocked r
+    by (inl p) (inl q) (inl r) = empty (clear k h (ap (λ xs. xs ++ server_unsent_in (at_key seat_link k h.core.servers.seats)) p ∙ q) (inl r))
+    by (inl p) (inl q) (inr (inl r)) = empty (clear k h (ap (λ xs. xs ++ server_unsent_in (at_key seat_link k h.core.servers.seats)) p ∙ q) (inr r))
 
 -- one more link was gone through: what holds of links that are passed over, and of those gone through, holds of this one
-pub passed-next : (states : List LinkState) (k last link : ℕ) (core : CoreView) (P Q : Type 0) → (k ≤ last → P) → (unsent_on k core ≡ [] → P) → (is_blocked (at_key link_number k states) ≡ true → P)
-    → (last < k → k < link → may_write_on k states core ≡ false) → (k ≢ link → P → Q) → (k ≡ link → Q) → k ≤ link → Q
-passed-next states k last link core P Q low empty blocked between others done most = go (eqb k link) refl
+pub passed-next : (k last link : ℕ) (h : Headless) (P Q : Type 0) → (k ≤ last → P) → (IsClear k h → P) → (is_blocked (at_key link_number k h.links.opened.items) ≡ true → P)
+    → (last < k → k < link → may_write_on k h.links.opened.items h.core ≡ false) → (k ≢ link → P → Q) → (k ≡ link → Q) → k ≤ link → Q
+passed-next k last link h P Q low empty blocked between others done most = go (eqb k link) refl
   where
     before : k ≢ link → (t : Bool) → nat_lt last k ≡ t → P
-    before n true e = passed states k core P empty blocked (between (grind (arith, nat_tests)) (grind (arith, nat_tests)))
+    before n true e = passed k h P empty blocked (between (grind (arith, nat_tests)) (grind (arith, nat_tests)))
     before n false e = low (grind (arith, nat_tests))
 
     go : (t : Bool) → eqb k link ≡ t → Q
@@ -150,12 +185,12 @@ passed-next states k last link core P Q low empty blocked between others done mo
     go false e = let n : k ≢ link = λ q. grind (arith, nat_tests) in others n (before n (nat_lt last k) refl)
 
 -- every other link is passed over
-pub passed-rest : (states : List LinkState) (k last : ℕ) (core : CoreView) (P : Type 0) → (k ≤ last → P) → (unsent_on k core ≡ [] → P) → (is_blocked (at_key link_number k states) ≡ true → P)
-    → (last < k → may_write_on k states core ≡ false) → P
-passed-rest states k last core P low empty blocked above = go (nat_lt last k) refl
+pub passed-rest : (k last : ℕ) (h : Headless) (P : Type 0) → (k ≤ last → P) → (IsClear k h → P) → (is_blocked (at_key link_number k h.links.opened.items) ≡ true → P)
+    → (last < k → may_write_on k h.links.opened.items h.core ≡ false) → P
+passed-rest k last h P low empty blocked above = go (nat_lt last k) refl
   where
     go : (t : Bool) → nat_lt last k ≡ t → P
-    go true e = passed states k core P empty blocked (above (grind (arith, nat_tests)))
+    go true e = passed k h P empty blocked (above (grind (arith, nat_tests)))
     go false e = low (grind (arith, nat_tests))
 
 -- what the loop keeps of a link without room is that of the sockets
@@ -165,41 +200,41 @@ pub record KnowsBlocked (states : List LinkState) (k : ℕ) (seen : Seen) : Type
 pub blocked-kept : (h : Headless) (k : ℕ) (seen : Seen) → AgreesWithSockets h seen → KnowsBlocked h.links.opened.items k seen
 blocked-kept h k seen s = record { is = λ b. s.among.blocked k ∙ b }
 
-pub written-next : (states : List LinkState) (k last link : ℕ) (core after : CoreView) (a b : Seen) → KnowsBlocked states k a → (k ≤ last → IsWritten k core a) → (last < k → k < link → may_write_on k states core ≡ false)
-    → (k ≢ link → IsWritten k core a → IsWritten k after b) → IsWritten link after b → k ≤ link → IsWritten k after b
-written-next states k last link core after a b known low between others done most =
-    passed-next states k last link core (IsWritten k core a) (IsWritten k after b) low (λ e. inl e) (λ e. inr (known.is e)) between others (λ same. subst (λ j. IsWritten j after b) (sym same) done) most
+pub written-next : (k last link : ℕ) (x y : Headless) (a b : Seen) → KnowsBlocked x.links.opened.items k a → (k ≤ last → IsWritten k x a) → (last < k → k < link → may_write_on k x.links.opened.items x.core ≡ false)
+    → (k ≢ link → IsWritten k x a → IsWritten k y b) → IsWritten link y b → k ≤ link → IsWritten k y b
+written-next k last link x y a b known low between others done most =
+    passed-next k last link x (IsWritten k x a) (IsWritten k y b) low (λ e. inl e) (λ e. inr (known.is e)) between others (λ same. subst (λ j. IsWritten j y b) (sym same) done) most
 
-pub written-rest : (states : List LinkState) (k last : ℕ) (core : CoreView) (a : Seen) → KnowsBlocked states k a → (k ≤ last → IsWritten k core a) → (last < k → may_write_on k states core ≡ false) → IsWritten k core a
-written-rest states k last core a known low above = passed-rest states k last core (IsWritten k core a) low (λ e. inl e) (λ e. inr (known.is e)) above
+pub written-rest : (k last : ℕ) (x : Headless) (a : Seen) → KnowsBlocked x.links.opened.items k a → (k ≤ last → IsWritten k x a) → (last < k → may_write_on k x.links.opened.items x.core ≡ false) → IsWritten k x a
+written-rest k last x a known low above = passed-rest k last x (IsWritten k x a) low (λ e. inl e) (λ e. inr (known.is e)) above
 
 -- ---- links are written after the end
 
 -- what was sent stays so where a link is not written again
-pub IsSent-later : (k : ℕ) (core after : CoreView) (a b c : Seen) → Later b c → NeverFall b.faults c.faults → unsent_on k after ≡ unsent_on k core → c.blocked k ≡ b.blocked k → IsSent k core a b → IsSent k after a c
-IsSent-later k core after a b c later counts unsent blocked (inl e) = inl (unsent ∙ e)
-IsSent-later k core after a b c later counts unsent blocked (inr (inl e)) = inr (inl (blocked ∙ e))
-IsSent-later k core after a b c later counts unsent blocked (inr (inr h)) =
+pub IsSent-later : (k : ℕ) (x y : Headless) (a b c : Seen) → Later b c → NeverFall b.faults c.faults → left_on k y ≡ left_on k x → c.blocked k ≡ b.blocked k → IsSent k x a b → IsSent k y a c
+IsSent-later k x y a b c later counts left blocked (inl e) = inl (left ∙ e)
+IsSent-later k x y a b c later counts left blocked (inr (inl e)) = inr (inl (blocked ∙ e))
+IsSent-later k x y a b c later counts left blocked (inr (inr h)) =
     inr (inr ((let p = h.0 in let q = counts.links in omega arith), λ t. gained-later a b c _ later.more (later.taken t) (h.1 (later.told t))))
 
-pub IsSent-following : (k : ℕ) (core : CoreView) (a b c : Seen) → Later a b → Later b c → NeverFall a.faults b.faults → IsSent k core b c → IsSent k core a c
-IsSent-following k core a b c first later counts (inl e) = inl e
-IsSent-following k core a b c first later counts (inr (inl e)) = inr (inl e)
-IsSent-following k core a b c first later counts (inr (inr h)) =
+pub IsSent-following : (k : ℕ) (x : Headless) (a b c : Seen) → Later a b → Later b c → NeverFall a.faults b.faults → IsSent k x b c → IsSent k x a c
+IsSent-following k x a b c first later counts (inl e) = inl e
+IsSent-following k x a b c first later counts (inr (inl e)) = inr (inl e)
+IsSent-following k x a b c first later counts (inr (inr h)) =
     inr (inr ((let p = h.0 in let q = counts.links in omega arith), λ t. gained-following a b c _ first.more (first.taken (later.told t)) (h.1 t)))
 
-pub AllSent-following : (core : CoreView) (a b c : Seen) → Later a b → Later b c → NeverFall a.faults b.faults → AllSent core b c → AllSent core a c
-AllSent-following core a b c first later counts h = λ k one. IsSent-following k core a b c first later counts (h k one)
+pub AllSent-following : (x : Headless) (a b c : Seen) → Later a b → Later b c → NeverFall a.faults b.faults → AllSent x b c → AllSent x a c
+AllSent-following x a b c first later counts h = λ k one. IsSent-following k x a b c first later counts (h k one)
 
-pub sent-next : (states : List LinkState) (k last link : ℕ) (core after : CoreView) (a b c : Seen) → KnowsBlocked states k b → Later a b → Later b c → NeverFall a.faults b.faults → NeverFall b.faults c.faults → (k ≤ last → IsSent k core a b) → (last < k → k < link → may_write_on k states core ≡ false)
-    → (k ≢ link → (unsent_on k after ≡ unsent_on k core) × (c.blocked k ≡ b.blocked k)) → IsSent link after b c → k ≤ link → IsSent k after a c
-sent-next states k last link core after a b c known first later fell counts low between others done most =
-    passed-next states k last link core (IsSent k core a b) (IsSent k after a c) low (λ e. inl e) (λ e. inr (inl (known.is e))) between
-    (λ n h. IsSent-later k core after a b c later counts (others n).0 (others n).1 h)
-    (λ same. IsSent-following k after a b c first later fell (subst (λ j. IsSent j after b c) (sym same) done)) most
+pub sent-next : (k last link : ℕ) (x y : Headless) (a b c : Seen) → KnowsBlocked x.links.opened.items k b → Later a b → Later b c → NeverFall a.faults b.faults → NeverFall b.faults c.faults → (k ≤ last → IsSent k x a b) → (last < k → k < link → may_write_on k x.links.opened.items x.core ≡ false)
+    → (k ≢ link → (left_on k y ≡ left_on k x) × (c.blocked k ≡ b.blocked k)) → IsSent link y b c → k ≤ link → IsSent k y a c
+sent-next k last link x y a b c known first later fell counts low between others done most =
+    passed-next k last link x (IsSent k x a b) (IsSent k y a c) low (λ (e : IsClear k x). inl e.left) (λ e. inr (inl (known.is e))) between
+    (λ n h. IsSent-later k x y a b c later counts (others n).0 (others n).1 h)
+    (λ same. IsSent-following k y a b c first later fell (subst (λ j. IsSent j y b c) (sym same) done)) most
 
-pub sent-rest : (states : List LinkState) (k last : ℕ) (core : CoreView) (a b : Seen) → KnowsBlocked states k b → (k ≤ last → IsSent k core a b) → (last < k → may_write_on k states core ≡ false) → IsSent k core a b
-sent-rest states k last core a b known low above = passed-rest states k last core (IsSent k core a b) low (λ e. inl e) (λ e. inr (inl (known.is e))) above
+pub sent-rest : (k last : ℕ) (x : Headless) (a b : Seen) → KnowsBlocked x.links.opened.items k b → (k ≤ last → IsSent k x a b) → (last < k → may_write_on k x.links.opened.items x.core ≡ false) → IsSent k x a b
+sent-rest k last x a b known low above = passed-rest k last x (IsSent k x a b) low (λ (e : IsClear k x). inl e.left) (λ e. inr (inl (known.is e))) above
 
 -- ---- links that an earlier turn left
 
@@ -452,8 +487,8 @@ any-take p (suc i) (token ∷ tokens) h = go (p token) refl h (any-take p i toke
 
 -- ---- all sources
 
-pub AllServed-following : (core : CoreView) (a b c : Seen) → Later a b → Later b c → AllServed core b c → AllServed core a c
-AllServed-following core a b c first later h = record {
+pub AllServed-following : (x : Headless) (a b c : Seen) → Later a b → Later b c → AllServed x b c → AllServed x a c
+AllServed-following x a b c first later h = record {
   links = λ k one. IsServed-following k a b c first later (h.links k one);
   listener = IsHeard-following a b c first later h.listener;
   written = h.written;

@@ -1,5 +1,5 @@
 -- How the sources that are ready are served.
-use Rattle.std.proofs.Common.{◌≡◌, ◌≢◌, ℕ, ◌+◌, ◌≤◌, inl, inr, Bool, true, false, not, cond, eqb, ◌&&◌, List, [], ◌∷◌, ◌++◌, length, take, IsTrue, refl, sym, ap, ◌∙◌, arith}
+use Rattle.std.proofs.Common.{◌≡◌, ◌≢◌, ℕ, ◌+◌, ◌≤◌, inl, inr, Bool, true, false, not, cond, eqb, ◌&&◌, List, [], ◌∷◌, ◌++◌, length, take, Option, Some, None, is_some, IsTrue, refl, sym, ap, ◌∙◌, arith}
 use Rattle.std.specs.List.{flat_map}
 use Rattle.std.proofs.lemmas.Bool.{false≢true}
 use Rattle.std.proofs.lemmas.Bool.Decides.{nat_tests}
@@ -10,11 +10,17 @@ use Rattle.wc_outside.specs.Seen.{Seen}
 use Rattle.wc_outside.specs.declared.happening.Happening.{Happening}
 use Rattle.wc_outside.specs.declared.happening.Happening.TheVariants.{Read, Accepted}
 use Rattle.wc_turns.specs.declared.headless.Headless.{Headless}
-use Rattle.wc_core.specs.CoreView.{CoreView}
+use Rattle.wc_outside.specs.Keyed.{at_key}
+use Rattle.wc_framing.specs.declared.framing.Framing.{Framing}
+use Rattle.wc_framing.specs.declared.framing.Framing.TheVariants as framing
+use Rattle.wc_framing.specs.Framing.{is_socket}
+use Rattle.wc_turns.specs.declared.links.LinkState.{LinkState}
+use Rattle.wc_turns.specs.Framed.{frames_in}
+use Rattle.wc_turns.specs.Links.{link_number, frames_of, is_socket_at}
 use Rattle.wc_turns.specs.Events.{bytes_on}
 use Rattle.wc_turns.specs.Parties.{unsent_on}
-use Rattle.wc_turns.specs.Sources.{bytes_taken, arrivals, NothingBecameReady, IsServed, IsHeard, IsWritten, TakesNothing}
-use Rattle.wc_turns.specs.Turns.{LoopStep}
+use Rattle.wc_turns.specs.Sources.{bytes_taken, arrivals, NothingBecameReady, IsServed, IsHeard, IsPut, IsWritten, TakesNothing}
+use Rattle.wc_turns.specs.Turns.{LoopStep, left_as, left_on}
 
 -- what was taken goes on
 pub record Later (before after : Seen) : Type 0 where
@@ -77,10 +83,32 @@ IsHeard-following a b c first later h = λ t e. (let p = arrivals-later a b firs
 pub IsHeard-drained : (a b : Seen) → b.listening ≡ false → IsHeard a b
 IsHeard-drained a b drained = λ t e. absurd (false≢true (sym drained ∙ e))
 
--- where the unsent bytes of a link stay, and it has no more room than before
-pub IsWritten-later : (k : ℕ) (core after : CoreView) (a b : Seen) → unsent_on k after ≡ unsent_on k core → b.blocked k ≡ a.blocked k → IsWritten k core a → IsWritten k after b
-IsWritten-later k core after a b e h (inl p) = inl (e ∙ p)
-IsWritten-later k core after a b e h (inr q) = inr (h ∙ q)
+-- what is to be sent on a link stays
+pub record SameLeft (k : ℕ) (x y : Headless) : Type 0 where
+  pub frames : frames_of (at_key link_number k y.links.opened.items) ≡ frames_of (at_key link_number k x.links.opened.items)
+  pub unsent : unsent_on k y.core ≡ unsent_on k x.core
+
+pub socket-frames : (o : Option LinkState) → is_socket_at o ≡ is_some (frames_of o)
+socket-frames None = refl
+socket-frames (Some state) = by state.framing
+  where
+    by : (f : Framing) → is_socket f ≡ is_some (frames_in f)
+    by framing.Undecided = refl
+    by framing.Plain = refl
+    by (framing.Socket link) = refl
+
+pub left-same : (k : ℕ) (x y : Headless) → SameLeft k x y → left_on k y ≡ left_on k x
+left-same k x y same = ap (λ o. left_as o (unsent_on k y.core)) same.frames ∙ ap (left_as (frames_of (at_key link_number k x.links.opened.items))) same.unsent
+
+pub put-same : (k : ℕ) (x y : Headless) → SameLeft k x y → IsPut k x → IsPut k y
+put-same k x y same h =
+    let socket : is_socket_at (at_key link_number k y.links.opened.items) ≡ is_socket_at (at_key link_number k x.links.opened.items) = socket-frames (at_key link_number k y.links.opened.items) ∙ ap is_some same.frames ∙ sym (socket-frames (at_key link_number k x.links.opened.items)) in
+    rw (socket, same.unsent) h
+
+-- where that is so, and the link has no more room than before
+pub IsWritten-later : (k : ℕ) (x y : Headless) (a b : Seen) → SameLeft k x y → b.blocked k ≡ a.blocked k → IsWritten k x a → IsWritten k y b
+IsWritten-later k x y a b same h (inl p) = inl (record { left = left-same k x y same ∙ p.left; put = put-same k x y same p.put })
+IsWritten-later k x y a b same h (inr q) = inr (h ∙ q)
 
 pub kept-other : (k link : ℕ) (b : Bool) → k ≢ link → (b && not (eqb k link)) ≡ b
 kept-other k link true n = grind (arith, nat_tests)

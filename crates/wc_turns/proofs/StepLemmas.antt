@@ -20,7 +20,8 @@ use Rattle.wc_turns.specs.declared.links.LinkState.{LinkState}
 use Rattle.wc_turns.specs.declared.headless.Headless.{Headless}
 use Rattle.wc_outside.specs.Keyed.{at_key}
 use Rattle.std.specs.List.{list_any}
-use Rattle.wc_turns.specs.Events.{bytes_on, comes_on, has_come, events_of, events_from}
+use Rattle.wc_turns.specs.Events.{bytes_on, comes_on, has_come, happening_events, events_from}
+use Rattle.wc_turns.specs.Heard.{Heard, Happened}
 use Rattle.wc_turns.specs.Links.{link_number, is_undrained, is_blocked}
 use Rattle.wc_core.specs.ServersKept.{is_wanted}
 use Rattle.wc_turns.specs.Parties.{asks_of, closes_asked}
@@ -31,6 +32,8 @@ use Rattle.wc_turns.proofs.KeyedLemmas.{none_of, same-keys}
 use Rattle.wc_turns.proofs.RunLemmas.{ReachesEvents-all, ReachesEvents-over, EndsAtQuit-one}
 use Rattle.wc_turns.proofs.PointLemmas.{AreAlone, MomentAdvances-same}
 use Rattle.wc_turns.proofs.AgreesLemmas.{IsTimeless, KeepsRefused, IsUnstanding, For-quiet, For-states, missing-as}
+use Rattle.wc_turns.proofs.HeardLemmas.{quiet-happened, socket-stays}
+use Rattle.wc_turns.proofs.HeardAgrees.{Hears-quiet, Hears-states, readings-kinds, socket-kinds}
 use Rattle.wc_turns.proofs.CauseLemmas.{Onward-none, reasons-same}
 use Rattle.wc_turns.proofs.ChangedLemmas.{there-as}
 use Rattle.wc_turns.proofs.SeatLemmas.{open-none, shut-leaving}
@@ -92,28 +95,30 @@ no-arrivals k (h ∷ given) e =
     let first : has_come k (h ∷ []) ≡ false = no-arrival k h (ap (λ t. t || false) (or-first (gives h) (list_any gives given) e)) in
     rw (or-first (comes_on k h) false first) (no-arrivals k given (or-second (gives h) (list_any gives given) e))
 
-missed-by : (x : Headless) (n : ℕ) (a b : Seen) (h : Happening) (q : Bool) → x.core.quits ≡ q → n ≡ reached_after_miss x.core.quits x.ran → b.taken ≡ a.taken ++ h ∷ [] → ((k : ℕ) → b.sent k ≡ a.sent k) → ((k : ℕ) → b.choked k ≡ a.choked k) → b.asked ≡ a.asked
-    → length (events_of a.taken h) ≡ 1 → GivesNothing (h ∷ []) → (x.core.quits ≡ false → (told : Beside) → run (state_of x.core told) (events_of a.taken h) ≡ no_step (state_of x.core told)) → CoreTakes (moment x a) (moment (record x { ran = n }) b) x.ran n [] (h ∷ [])
-missed-by x n a b h true e count taken sent choked asked one gives none =
+missed-by : (history : List Heard) (x : Headless) (n : ℕ) (a b : Seen) (h : Happening) (q : Bool) → x.core.quits ≡ q → n ≡ reached_after_miss x.core.quits x.ran → b.taken ≡ a.taken ++ h ∷ [] → ((k : ℕ) → b.sent k ≡ a.sent k) → ((k : ℕ) → b.choked k ≡ a.choked k) → b.asked ≡ a.asked
+    → length (happening_events history h) ≡ 1 → GivesNothing (h ∷ []) → (x.core.quits ≡ false → (told : Beside) → run (state_of x.core told) (happening_events history h) ≡ no_step (state_of x.core told)) → CoreTakes history (moment x a) (moment (record x { ran = n }) b) x.ran n [] (Happened h ∷ [])
+missed-by history x n a b h true e count taken sent choked asked one gives none =
     let same : n ≡ x.ran = rw e at count in
     record {
       events = [];
-      reaches = rw same (ReachesEvents-over x.core.quits x.core.quits x.ran (events_from a.taken (h ∷ [])) e);
+      reaches = rw same (ReachesEvents-over x.core.quits x.core.quits x.ran (events_from history (Happened h ∷ [])) e);
       rises = omega arith;
       verdicts = Stay-refl x.core.verdicts;
       advances = λ still below told were agrees. MomentAdvances-same told (moment x a) (moment (record x { ran = n }) b) refl refl sent choked (ap (λ xs. xs ++ asks_of x.core.servers.wanted) asked) (h ∷ []) taken [] refl were tt;
       silent = λ over. gives;
+      ends = (tt, tt);
       last = λ still below told were agrees going over. absurd (false≢true (sym going ∙ over));
     }
-missed-by x n a b h false e count taken sent choked asked one gives none =
+missed-by history x n a b h false e count taken sent choked asked one gives none =
     let more : n ≡ min (x.ran + 1) (2 ^ 64 - 1) = rw e at count in
     record {
-      events = events_of a.taken h;
-      reaches = rw (append-nil (events_of a.taken h)) (ReachesEvents-all x.core.quits x.core.quits x.ran n (events_of a.taken h) e (λ fits. omega arith));
+      events = happening_events history h;
+      reaches = rw (append-nil (happening_events history h)) (ReachesEvents-all x.core.quits x.core.quits x.ran n (happening_events history h) e (λ fits. omega arith));
       rises = omega arith;
       verdicts = Stay-refl x.core.verdicts;
-      advances = λ still below told were agrees. MomentAdvances-same told (moment x a) (moment (record x { ran = n }) b) refl refl sent choked (ap (λ xs. xs ++ asks_of x.core.servers.wanted) asked) (h ∷ []) taken (events_of a.taken h) (none e told) were (EndsAtQuit-one (state_of x.core told) (events_of a.taken h) one);
+      advances = λ still below told were agrees. MomentAdvances-same told (moment x a) (moment (record x { ran = n }) b) refl refl sent choked (ap (λ xs. xs ++ asks_of x.core.servers.wanted) asked) (h ∷ []) taken (happening_events history h) (none e told) were (EndsAtQuit-one (state_of x.core told) (happening_events history h) one);
       silent = λ over. gives;
+      ends = (tt, tt);
       last = λ still below told were agrees going over. absurd (false≢true (sym going ∙ over));
     }
 
@@ -121,18 +126,24 @@ ran-before : (q : Bool) (ran n : ℕ) → n ≡ reached_after_miss q ran → n �
 ran-before true ran n count e = sym count ∙ e
 ran-before false ran n count e = omega arith
 
+-- no client comes at it
+missed-nobody : (h : Happening) → GivesNothing (h ∷ []) → (k : ℕ) → comes_on k h ≡ false
+missed-nobody h gives k = or-first (comes_on k h) false (no-arrival k h gives)
+
 -- an event that changes nothing
 pub LoopStep-missed : (x : Headless) (n : ℕ) (a b : Seen) (h : Happening) → is_wake h ≡ 0 → GivesNothing (h ∷ []) → Call a b (h ∷ []) → (IsTrue b.tells → (k : ℕ) → b.sent k ≡ a.sent k) → (IsTrue b.tells → (k : ℕ) → b.choked k ≡ a.choked k) → (IsTrue b.tells → b.asked ≡ a.asked) → SameSets a b
-    → ((k : ℕ) → bytes_on k h ≡ []) → IsTimeless h → KeepsRefused h → IsUnstanding h → ((taken : List Happening) → length (events_of taken h) ≡ 1) → n ≡ reached_after_miss x.core.quits x.ran
-    → (AgreesWithSockets x a → x.core.quits ≡ false → (taken : List Happening) (told : Beside) → run (state_of x.core told) (events_of taken h) ≡ no_step (state_of x.core told))
+    → ((k : ℕ) → bytes_on k h ≡ []) → IsTimeless h → KeepsRefused h → IsUnstanding h → ((history : List Heard) → length (happening_events history h) ≡ 1) → n ≡ reached_after_miss x.core.quits x.ran
+    → (AgreesWithSockets x a → x.core.quits ≡ false → (history : List Heard) (told : Beside) → run (state_of x.core told) (happening_events history h) ≡ no_step (state_of x.core told))
     → LoopStep true 0 (is_listen_fault h) x (record x { ran = n }) a b
 LoopStep-missed x n a b h wake gives call sent choked asked same quiet timeless keeps unstanding one count none =
-    LoopStep-step true 0 (is_listen_fault h) x (record x { ran = n }) a b (h ∷ []) [] call (λ below. omega arith) (omega arith) (omega arith)
+    LoopStep-step true 0 (is_listen_fault h) x (record x { ran = n }) a b (h ∷ []) (Happened h ∷ []) [] refl call (λ below. omega arith) (omega arith) (omega arith)
     (omega arith) (λ t s unstarved below. sym (append-nil _)) (λ s. reasons-same x (record x { ran = n }) a b refl) (λ s k h. h) (λ s. Onward-none x.core x.core (h ∷ []) (omega arith) (λ k. no-arrival k h gives)) (λ over. over) (λ t s. inl (refl, refl))
     (among-same x.links.opened.items x.core x.used x.listening x.refused.items a b same)
-    (λ t s on. (let more : n ≡ min (x.ran + 1) (2 ^ 64 - 1) = rw on at count in let o = one a.taken in For-quiet x.clock x.links.opened.items x.used x.ran n x.refused.items x.unlisted a.taken h quiet timeless keeps unstanding (omega arith) (omega arith) (s.told (call.told t) on)))
+    (λ t s on. (let more : n ≡ min (x.ran + 1) (2 ^ 64 - 1) = rw on at count in For-quiet x.clock x.links.opened.items x.used x.ran n x.refused.items x.unlisted a.taken h 1 quiet timeless keeps unstanding (omega arith) (omega arith) (s.told (call.told t) on)))
+    (λ t s on. (let more : n ≡ min (x.ran + 1) (2 ^ 64 - 1) = rw on at count in let o = one s.history in Hears-quiet x.links.opened.items x.used x.used x.ran n a.taken s.history (Happened h) (s.spells (call.told t)) (quiet-happened h quiet (missed-nobody h gives)) (omega arith) (omega arith) (s.hears (call.told t) on)))
+    (λ t s k e. socket-stays k a.taken (h ∷ []) (s.sockets (call.told t) k e))
     (λ s stopped. s.idle (ran-before x.core.quits x.ran n count stopped))
-    (λ t s. missed-by x n a b h x.core.quits refl count (call.taken t) (sent t) (choked t) (asked t) (one a.taken) gives (λ on. none s on a.taken))
+    (λ t s. missed-by s.history x n a b h x.core.quits refl count (call.taken t) (sent t) (choked t) (asked t) (one s.history) gives (λ on. none s on s.history))
 
 left-client : (k : ℕ) (connections : List Connection) (o : Option Connection) → at_key connection_link k connections ≡ o → Distinct (map connection_link connections) → IsSome (leaving_in o) → at_key client_link k (clients_of connections) ≡ None
 left-client k connections None e d h = absurd (false≢true h)
@@ -143,7 +154,7 @@ left-client k connections (Some connection) e d h = client-leaving k connections
     closed-connection (Some cause) q = refl
 
 -- the failure of a link whose client or server is leaving changes nothing
-pub failed-left : (core : CoreView) (link : LinkId) (taken : List Happening) → Distinct (links_of core) → AreSeats core.servers → AreAlone core → IsSome (leaving_of link.0 core) → (told : Beside) → run (state_of core told) (events_of taken (Failed link)) ≡ no_step (state_of core told)
+pub failed-left : (core : CoreView) (link : LinkId) (taken : List Heard) → Distinct (links_of core) → AreSeats core.servers → AreAlone core → IsSome (leaving_of link.0 core) → (told : Beside) → run (state_of core told) (happening_events taken (Failed link)) ≡ no_step (state_of core told)
 failed-left core link taken d seats alone h told = left-by (server_leaving_on link.0 core.servers.seats) refl h
   where
     no-client : (o : Option Connection) → at_key connection_link link.0 core.connections ≡ o → IsSome (server_leaving_on link.0 core.servers.seats) → o ≡ None
@@ -154,10 +165,10 @@ failed-left core link taken d seats alone h told = left-by (server_leaving_on li
     no-server q None e = absurd (false≢true (rw e at q))
     no-server q (Some connection) e = rw (alone link.0 (ap is_some e)) refl
 
-    done : at_key client_link link.0 (clients_of core.connections) ≡ None → at_key server_link link.0 (open_of core.servers.seats) ≡ None → run (state_of core told) (events_of taken (Failed link)) ≡ no_step (state_of core told)
+    done : at_key client_link link.0 (clients_of core.connections) ≡ None → at_key server_link link.0 (open_of core.servers.seats) ≡ None → run (state_of core told) (happening_events taken (Failed link)) ≡ no_step (state_of core told)
     done none other = rw (none, other) refl
 
-    left-by : (why : Option Cause) → server_leaving_on link.0 core.servers.seats ≡ why → IsSome (or_else why (leaving_on link.0 core.connections)) → run (state_of core told) (events_of taken (Failed link)) ≡ no_step (state_of core told)
+    left-by : (why : Option Cause) → server_leaving_on link.0 core.servers.seats ≡ why → IsSome (or_else why (leaving_on link.0 core.connections)) → run (state_of core told) (happening_events taken (Failed link)) ≡ no_step (state_of core told)
     left-by None e q = done (left-client link.0 core.connections (at_key connection_link link.0 core.connections) refl d q) (open-none link.0 core.servers.seats seats.apart (no-server q (at_key connection_link link.0 core.connections) refl))
     left-by (Some cause) e q =
         let leaves : IsSome (server_leaving_on link.0 core.servers.seats) = rw e refl in
@@ -205,5 +216,7 @@ LoopStep-flags x y a b only call sent choked asked used there listening numbers 
       reached = s.reached;
       limited = s.limited;
     }))
-    (λ t s. rw (only.clock, only.used, only.ran, only.refused, only.unlisted) (For-states x.clock x.links.opened.items y.links.opened.items x.used x.ran x.refused.items x.unlisted a.taken tails kinds (missing-as x.links.opened.items y.links.opened.items numbers) s))
+    (λ t s. rw (only.clock, only.used, only.ran, only.refused, only.unlisted) (For-states x.clock x.links.opened.items y.links.opened.items x.used x.ran x.refused.items x.unlisted a.taken kinds (missing-as x.links.opened.items y.links.opened.items numbers) s))
+    (λ t history s. rw (only.used, only.ran) (Hears-states x.links.opened.items y.links.opened.items x.used x.ran a.taken history tails (readings-kinds x.links.opened.items y.links.opened.items kinds) s))
+    (λ k e. socket-kinds (at_key link_number k x.links.opened.items) (at_key link_number k y.links.opened.items) (kinds k) e)
     (λ t s told were. MomentAdvances-same told (moment x a) (moment y b) only.core only.used (sent t) (choked t) (ap (λ xs. xs ++ asks_of y.core.servers.wanted) (asked t) ∙ ap (λ c. a.asked ++ asks_of c.servers.wanted) only.core) [] (call.taken t) [] refl were tt)

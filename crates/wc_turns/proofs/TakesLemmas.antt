@@ -6,7 +6,7 @@ use Rattle.std.proofs.lemmas.List.{append-nil}
 use Rattle.std.proofs.lemmas.List.Elements.{All-head, All-append}
 use Rattle.wc_text.specs.declared.names.LinkId.{LinkId}
 use Rattle.wc_text.specs.declared.names.Cause.{Cause}
-use Rattle.wc_text.specs.declared.names.Cause.TheVariants.{NoMemory, LoginFailed, Surplus, Quit, Ended as CauseEnded, Failed as CauseFailed, Disconnected, NickTaken}
+use Rattle.wc_text.specs.declared.names.Cause.TheVariants.{NoMemory, LoginFailed, Surplus, Quit, Ended as CauseEnded, Failed as CauseFailed, Disconnected, NickTaken, BadSocket}
 use Rattle.wc_outside.specs.Seen.{Seen}
 use Rattle.wc_outside.specs.declared.happening.Happening.{Happening}
 use Rattle.wc_outside.specs.declared.happening.Happening.TheVariants.{Woke, Accepted, Read, Ended, Failed, Connected, Refused, ListenFailed}
@@ -15,7 +15,7 @@ use Rattle.wc_board.specs.Connections.{connection_link, leaving_on}
 use Rattle.wc_core.specs.State.{Beside}
 use Rattle.wc_servers.specs.Outs.{wanted_in, part_of, or_else as or_other}
 use Rattle.wc_servers.specs.Seats.{SeatView, AreSeats, seat_link, server_link, is_open_at as server_is_open_at, leaving_in as server_leaving_in, leaving_on as server_leaving_on}
-use Rattle.wc_core.specs.Events.{Event, Arrives, Stands}
+use Rattle.wc_core.specs.Events.{Event, Arrives, Stands, Breaks}
 use Rattle.wc_core.specs.CoreView.{CoreView}
 use Rattle.wc_core.specs.State.{State, Act, has_end}
 use Rattle.wc_core.specs.Step.{run, step}
@@ -25,30 +25,31 @@ use Rattle.wc_core.proofs.ConnectionLemmas.{client-missing}
 use Rattle.wc_board.specs.Served.{StaysOrStarves}
 use Rattle.wc_turns.specs.declared.links.LinkState.{LinkState}
 use Rattle.wc_turns.specs.declared.headless.Headless.{Headless}
-use Rattle.wc_turns.specs.Lines.{rest}
-use Rattle.wc_turns.specs.Links.{link_number, is_undrained, is_blocked, is_there, is_connecting, kind_of, changed_at, standing_state, IsConnecting}
-use Rattle.wc_turns.specs.Events.{bytes_on, has_come, tail_on, events_of, read_events}
+use Rattle.wc_turns.specs.Links.{link_number, is_undrained, is_blocked, is_there, is_connecting, is_socket_at, changed_at, standing_state, IsConnecting}
+use Rattle.wc_turns.specs.Events.{bytes_on, comes_on, has_come, socket_on, happening_events, events_of}
+use Rattle.wc_turns.specs.Heard.{Heard, Happened, NotPut, happened, happenings}
 use Rattle.wc_turns.specs.Parties.{asks_of, asks_in, closes_asked, seat_closes, IsCalm}
 use Rattle.wc_turns.specs.Run.{closings, close_of_parting}
 use Rattle.wc_turns.specs.Steps.{LosesLink}
-use Rattle.wc_turns.specs.Served.{closed_by, leaving_closes, MayTake, IsOfLine, LeavesFor, LeavesAtLine}
-use Rattle.wc_turns.specs.Tails.{IsTail}
-use Rattle.wc_turns.specs.Turns.{AgreesOnLinks, AgreesWithSockets, moment, CausedBy, IsOfServer, HasCause, is_wake, is_listen_fault, closed_so_far, LoopStep, TakesHappening}
+use Rattle.wc_turns.specs.Served.{closed_by, leaving_closes, MayTake, IsOfRead, LeavesForRead, LeavesAtRead}
+use Rattle.wc_turns.specs.Turns.{AgreesOnLinks, AgreesWithSockets, moment, CausedBy, IsOfServer, HasCause, wake_count, listen_faults, closed_so_far, LoopStep, TakesHappening}
 use Rattle.wc_turns.proofs.KeyedLemmas.{at_key-key, at_key-put_same, at_key-put_other, map-put_at, none_of, same-keys}
 use Rattle.wc_turns.proofs.RunLemmas.{ReachesEvents-all}
 use Rattle.wc_turns.proofs.PointLemmas.{AreAlone, seats-above, sides-kept, MomentAdvances-takes, asks_of-append}
-use Rattle.wc_turns.proofs.ChangedLemmas.{changed, keeps-standing, at_key-changed, numbers-changed, there-kind}
+use Rattle.wc_turns.proofs.ChangedLemmas.{changed, keeps-standing, at_key-changed, numbers-changed, SameTails-changed}
 use Rattle.wc_turns.proofs.ClosingLemmas.{IsOf, IsApart, parted, run-one, all-front}
 use Rattle.wc_turns.proofs.ConnectionLemmas.{calm-leaving, closes-all, one-closes}
 use Rattle.wc_turns.proofs.ServedLemmas.{MayRun-one}
 use Rattle.wc_turns.proofs.CauseLemmas.{KeepsSides, Onward-none, uncome-as, reasons-more}
-use Rattle.wc_turns.proofs.AgreesLemmas.{For-read, For-quiet, For-stands, IsTail-at, IsTimeless, KeepsRefused, IsUnstanding}
+use Rattle.wc_turns.proofs.AgreesLemmas.{For-quiet, For-reached, For-stands, IsTimeless, KeepsRefused, IsUnstanding}
+use Rattle.wc_turns.proofs.HeardLemmas.{quiet-happened, quiet-notput, socket-stays}
+use Rattle.wc_turns.proofs.HeardAgrees.{Hears-quiet, Hears-states, SameReadings, reading_of, socket-heard}
 use Rattle.wc_turns.proofs.SeatLemmas.{open-none, seats-all, calm-partings}
 use Rattle.wc_turns.proofs.PartyLemmas.{among-come, party-used, clients-above, calm-clients, calm-seats}
 use Rattle.wc_turns.proofs.StepLemmas.{SameSets}
 use Rattle.wc_turns.proofs.TurnLemmas.{Call, LoopStep-step}
 
-flag-put : (f : Option LinkState → Bool) (j k : ℕ) (t : Bool) → eqb k j ≡ t → (old new : LinkState) (states : List LinkState) → at_key link_number j states ≡ Some old → link_number new ≡ j → f (Some new) ≡ f (Some old) → f (at_key link_number k (put_at link_number j new states)) ≡ f (at_key link_number k states)
+pub flag-put : (f : Option LinkState → Bool) (j k : ℕ) (t : Bool) → eqb k j ≡ t → (old new : LinkState) (states : List LinkState) → at_key link_number j states ≡ Some old → link_number new ≡ j → f (Some new) ≡ f (Some old) → f (at_key link_number k (put_at link_number j new states)) ≡ f (at_key link_number k states)
 flag-put f j k true e old new states found key flag =
     let same : j ≡ k = grind (arith, nat_tests) in
     let before : at_key link_number k states ≡ Some old = subst (λ i. at_key link_number i states ≡ Some old) same found in
@@ -57,7 +58,7 @@ flag-put f j k true e old new states found key flag =
 flag-put f j k false e old new states found key flag = let other : k ≢ j = λ q. grind (arith, nat_tests) in ap f (at_key-put_other link_number j k new states key other)
 
 -- how many events are reached
-reached : (n m : ℕ) (all es others : List Event) → others ≡ [] → all ≡ es ++ others → m ≡ min (n + length es) (2 ^ 64 - 1) → m ≡ min (n + length all) (2 ^ 64 - 1)
+pub reached : (n m : ℕ) (all es others : List Event) → others ≡ [] → all ≡ es ++ others → m ≡ min (n + length es) (2 ^ 64 - 1) → m ≡ min (n + length all) (2 ^ 64 - 1)
 reached n m all es others none front count = let e = ap length (front ∙ ap (λ xs. es ++ xs) none ∙ append-nil es) in omega arith
 
 -- the link of a place goes on standing
@@ -73,41 +74,11 @@ standing-at states link place old p at stands =
     let found : at_key link_number link states ≡ Some old = p.found old ∙ ap Some (sym at) in
     sym (ap is_connecting found) ∙ stands
 
-pub TakesHappening-read : (x y : Headless) (link : LinkId) (place : ℕ) (old new : LinkState) (bytes : List ℕ) → IsKeyPlace link_number link.0 x.links.opened.items place → old ≡ get_or x.links.opened.items place old → new.link ≡ old.link → new.undrained ≡ old.undrained → new.blocked ≡ old.blocked → old.connecting ≡ false → kind_of (Some new) ≡ kind_of (Some old)
-    → y.turns ≡ x.turns → y.used ≡ x.used → y.listening ≡ x.listening → y.refused ≡ x.refused → y.unlisted ≡ x.unlisted → y.clock ≡ x.clock → y.links.closed.items ≡ x.links.closed.items → y.links.opened.items ≡ set x.links.opened.items place new
-    → map connection_link y.core.connections ≡ map connection_link x.core.connections → ServersKeep x.core.servers y.core.servers → (y.ran ≡ 0 → y.core ≡ x.core)
-    → (y.core.quits ≡ false → (line : List ℕ) → IsTail line old.tail → IsTail (rest line bytes) new.tail)
-    → ((line : List ℕ) → IsTail line old.tail → MayTake x.core y.core x.ran y.ran (read_events link.0 line bytes))
-    → TakesHappening x y (Read link bytes)
-TakesHappening-read x y link place old new bytes p at key flag block stands kind turns used listening refused unlisted clock closed opened clients servers idle tail takes =
-    let found : at_key link_number link.0 x.links.opened.items ≡ Some old = p.found old ∙ ap Some (sym at) in
-    let number : link_number new ≡ link.0 = ap (λ (l : LinkId). l.0) key ∙ at_key-key link_number link.0 x.links.opened.items old found in
-    record {
-      turns = turns;
-      closed = closed;
-      used = used;
-      listening = listening;
-      refused = ap (λ r. r.items) refused;
-      numbers = rw (opened, p.put new) (map-put_at link_number link.0 new x.links.opened.items number);
-      undrained = λ k. rw (opened, p.put new) (flag-put is_undrained link.0 k (eqb k link.0) refl old new x.links.opened.items found number flag);
-      blocked = λ k. rw (opened, p.put new) (flag-put is_blocked link.0 k (eqb k link.0) refl old new x.links.opened.items found number block);
-      there = λ k. rw (opened, p.put new) (flag-put is_there link.0 k (eqb k link.0) refl old new x.links.opened.items found number (there-kind (Some old) (Some new) kind));
-      clients = clients;
-      servers = servers;
-      idle = λ none. ap (λ c. c.servers.wanted) (idle none);
-      told = λ taken unknown going s.
-          let t = IsTail-at x.clock x.links.opened.items x.used x.ran x.refused.items x.unlisted taken link.0 place old p at s in
-          let m = takes (tail_on link.0 taken) t in
-          let count = reached x.ran y.ran (read_events link.0 (tail_on link.0 taken) bytes) m.events m.reaches.rest (m.reaches.whole going) m.reaches.front (m.reaches.counts (let e = s.events in omega arith)) in
-          rw (opened, clock, used, refused, unlisted) (For-read x.clock x.links.opened.items x.used x.ran y.ran x.refused.items x.unlisted taken link place old new bytes p at key (unknown link.0) stands kind (tail going (tail_on link.0 taken) t) count s);
-      takes = λ taken s. takes (tail_on link.0 taken) (IsTail-at x.clock x.links.opened.items x.used x.ran x.refused.items x.unlisted taken link.0 place old p at s);
-    }
-
 -- the link of a client or of a server is lost
-pub TakesHappening-lost : (x y : Headless) (h : Happening) (event : Event) → x.core.quits ≡ false → ((k : ℕ) → bytes_on k h ≡ []) → IsTimeless h → KeepsRefused h → IsUnstanding h → ((taken : List Happening) → events_of taken h ≡ event ∷ [])
+pub TakesHappening-lost : (x y : Headless) (h : Happening) (event : Event) → x.core.quits ≡ false → ((k : ℕ) → bytes_on k h ≡ []) → ((k : ℕ) → comes_on k h ≡ false) → IsTimeless h → KeepsRefused h → IsUnstanding h → ((history : List Heard) → happening_events history h ≡ event ∷ [])
     → y.turns ≡ x.turns → y.used ≡ x.used → y.listening ≡ x.listening → y.refused ≡ x.refused → y.unlisted ≡ x.unlisted → y.clock ≡ x.clock → y.links ≡ x.links → y.ran ≡ min (x.ran + 1) (2 ^ 64 - 1)
-    → Does x.core y.core (λ state. step state event) → TakesHappening x y h
-TakesHappening-lost x y h event going quiet timeless keeps unstanding events turns used listening refused unlisted clock links ran does = record {
+    → Does x.core y.core (λ state. step state event) → TakesHappening x y (Happened h)
+TakesHappening-lost x y h event going quiet nobody timeless keeps unstanding events turns used listening refused unlisted clock links ran does = record {
   turns = turns;
   closed = ap (λ l. l.closed.items) links;
   used = used;
@@ -120,13 +91,40 @@ TakesHappening-lost x y h event going quiet timeless keeps unstanding events tur
   clients = (does (plain_beside x.core)).keeps.links;
   servers = (does (plain_beside x.core)).keeps.servers;
   idle = λ none. absurd (omega arith);
-  told = λ taken unknown on s. rw (links, clock, used, refused, unlisted) (For-quiet x.clock x.links.opened.items x.used x.ran y.ran x.refused.items x.unlisted taken h quiet timeless keeps unstanding (let e = ap length (events taken) in omega arith) (let e = ap length (events taken) in omega arith) s);
-  takes = λ taken s. rw (events taken) (record { events = event ∷ []; reaches = ReachesEvents-all x.core.quits y.core.quits x.ran y.ran (event ∷ []) going (λ fits. omega arith); takes = MayRun-one x.core y.core event does });
+  told = λ taken unknown on s. rw (links, clock, used, refused, unlisted) (For-quiet x.clock x.links.opened.items x.used x.ran y.ran x.refused.items x.unlisted taken h 1 quiet timeless keeps unstanding (omega arith) (omega arith) s);
+  hears = λ taken history spells unknown on s. rw (links, used) (Hears-quiet x.links.opened.items x.used x.used x.ran y.ran taken history (Happened h) spells (quiet-happened h quiet nobody) (omega arith) (let e = ap length (events history) in omega arith) s);
+  sockets = λ taken history spells s k e. socket-stays k taken (h ∷ []) (socket-heard x.links.opened.items x.used x.ran taken history s k (rw links at e));
+  ends = λ taken history spells s. tt;
+  takes = λ taken history spells s. rw (events history) (record { events = event ∷ []; reaches = ReachesEvents-all x.core.quits y.core.quits x.ran y.ran (event ∷ []) going (λ fits. omega arith); takes = MayRun-one x.core y.core event does });
+}
+
+-- a message could not be put into a frame of a link
+pub TakesHappening-broken : (x y : Headless) (link : LinkId) → x.core.quits ≡ false
+    → y.turns ≡ x.turns → y.used ≡ x.used → y.listening ≡ x.listening → y.refused ≡ x.refused → y.unlisted ≡ x.unlisted → y.clock ≡ x.clock → y.links ≡ x.links → y.ran ≡ min (x.ran + 1) (2 ^ 64 - 1)
+    → Does x.core y.core (λ state. step state (Breaks link.0)) → is_socket_at (at_key link_number link.0 x.links.opened.items) ≡ true → TakesHappening x y (NotPut link)
+TakesHappening-broken x y link going turns used listening refused unlisted clock links ran does is = record {
+  turns = turns;
+  closed = ap (λ l. l.closed.items) links;
+  used = used;
+  listening = listening;
+  refused = ap (λ r. r.items) refused;
+  numbers = ap (λ l. map link_number l.opened.items) links;
+  undrained = λ k. ap (λ l. is_undrained (at_key link_number k l.opened.items)) links;
+  blocked = λ k. ap (λ l. is_blocked (at_key link_number k l.opened.items)) links;
+  there = λ k. ap (λ l. is_there (at_key link_number k l.opened.items)) links;
+  clients = (does (plain_beside x.core)).keeps.links;
+  servers = (does (plain_beside x.core)).keeps.servers;
+  idle = λ none. absurd (omega arith);
+  told = λ taken unknown on s. rw (append-nil taken, links, clock, used, refused, unlisted) (For-reached x.clock x.links.opened.items x.used x.ran y.ran x.refused.items x.unlisted taken (λ z. omega arith) s);
+  hears = λ taken history spells unknown on s. rw (links, used) (Hears-quiet x.links.opened.items x.used x.used x.ran y.ran taken history (NotPut link) spells (quiet-notput link) (omega arith) ran s);
+  sockets = λ taken history spells s k e. socket-stays k taken [] (socket-heard x.links.opened.items x.used x.ran taken history s k (rw links at e));
+  ends = λ taken history spells s. ap (socket_on link.0) spells ∙ socket-heard x.links.opened.items x.used x.ran taken history s link.0 is;
+  takes = λ taken history spells s. record { events = Breaks link.0 ∷ []; reaches = ReachesEvents-all x.core.quits y.core.quits x.ran y.ran (Breaks link.0 ∷ []) going (λ fits. omega arith); takes = MayRun-one x.core y.core (Breaks link.0) does };
 }
 
 -- a connection stands
 pub TakesHappening-stands : (x y : Headless) (link : LinkId) → x.core.quits ≡ false → IsConnecting link.0 x.links.opened.items → y.turns ≡ x.turns → y.used ≡ x.used → y.listening ≡ x.listening → y.refused ≡ x.refused → y.unlisted ≡ x.unlisted → y.clock ≡ x.clock → y.links.closed ≡ x.links.closed
-    → y.links.opened.items ≡ changed_at link.0 standing_state x.links.opened.items (at_key link_number link.0 x.links.opened.items) → y.ran ≡ min (x.ran + 1) (2 ^ 64 - 1) → Does x.core y.core (λ state. step state (Stands link.0)) → TakesHappening x y (Connected link)
+    → y.links.opened.items ≡ changed_at link.0 standing_state x.links.opened.items (at_key link_number link.0 x.links.opened.items) → y.ran ≡ min (x.ran + 1) (2 ^ 64 - 1) → Does x.core y.core (λ state. step state (Stands link.0)) → TakesHappening x y (Happened (Connected link))
 TakesHappening-stands x y link going connecting turns used listening refused unlisted clock closed opened ran does = record {
   turns = turns;
   closed = ap (λ v. v.items) closed;
@@ -141,7 +139,11 @@ TakesHappening-stands x y link going connecting turns used listening refused unl
   servers = (does (plain_beside x.core)).keeps.servers;
   idle = λ none. absurd (omega arith);
   told = λ taken unknown on s. rw (opened, clock, used, refused, unlisted) (For-stands x.clock states x.used x.ran y.ran x.refused.items x.unlisted taken link (within unknown (nat_le link.0 x.used) refl) ran s);
-  takes = λ taken s. record { events = Stands link.0 ∷ []; reaches = ReachesEvents-all x.core.quits y.core.quits x.ran y.ran (Stands link.0 ∷ []) going (λ fits. omega arith); takes = MayRun-one x.core y.core (Stands link.0) does };
+  hears = λ taken history spells unknown on s. rw (opened, used) (Hears-states states (changed_at link.0 standing_state states (at_key link_number link.0 states)) x.used y.ran (taken ++ Connected link ∷ []) (history ++ Happened (Connected link) ∷ []) (SameTails-changed link.0 standing_state keeps-standing states) readings
+      (Hears-quiet states x.used x.used x.ran y.ran taken history (Happened (Connected link)) spells (quiet-happened (Connected link) (λ k. refl) (λ k. refl)) (omega arith) ran s));
+  sockets = λ taken history spells s k e. socket-stays k taken (Connected link ∷ []) (socket-heard states x.used x.ran taken history s k (sym (flag-stands is_socket_at (λ state. refl) k) ∙ rw opened at e));
+  ends = λ taken history spells s. tt;
+  takes = λ taken history spells s. record { events = Stands link.0 ∷ []; reaches = ReachesEvents-all x.core.quits y.core.quits x.ran y.ran (Stands link.0 ∷ []) going (λ fits. omega arith); takes = MayRun-one x.core y.core (Stands link.0) does };
 } where
   states : List LinkState
   states = x.links.opened.items
@@ -153,6 +155,14 @@ TakesHappening-stands x y link going connecting turns used listening refused unl
 
   flag-stands : (f : Option LinkState → Bool) → ((state : LinkState) → f (Some (standing_state state)) ≡ f (Some state)) → (k : ℕ) → f (at_key link_number k (changed_at link.0 standing_state states (at_key link_number link.0 states))) ≡ f (at_key link_number k states)
   flag-stands f same k = ap f (at_key-changed link.0 k standing_state keeps-standing states) ∙ flag-by f same (eqb k link.0) (at_key link_number k states)
+
+  readings : SameReadings states (changed_at link.0 standing_state states (at_key link_number link.0 states))
+  readings = λ k. inr (ap reading_of (at_key-changed link.0 k standing_state keeps-standing states) ∙ reading-by (eqb k link.0) (at_key link_number k states))
+    where
+      reading-by : (t : Bool) (o : Option LinkState) → reading_of (changed t standing_state o) ≡ reading_of o
+      reading-by true None = refl
+      reading-by true (Some state) = refl
+      reading-by false o = refl
 
   -- a link that is kept has a used number
   within : ((k : ℕ) → x.used < k → at_key link_number k states ≡ None) → (t : Bool) → nat_le link.0 x.used ≡ t → link.0 ≤ x.used
@@ -213,7 +223,7 @@ closes-taken link told a b events calm links distinct alone seats few order all 
         )
 
 -- where its events are those of a link that came, it is no arrival
-pub none-arrives : (link : LinkId) (k : ℕ) (h : Happening) → All (IsOf link.0) (events_of [] h) → has_come k (h ∷ []) ≡ false
+pub none-arrives : (link : LinkId) (k : ℕ) (h : Happening) → All (IsOf link.0) (happening_events [] h) → has_come k (h ∷ []) ≡ false
 none-arrives link k (Accepted other nonce) of = absurd (All-head (IsOf link.0) (Arrives other.0 nonce) [] of)
 none-arrives link k (Woke moment) of = refl
 none-arrives link k (Read other bytes) of = refl
@@ -225,25 +235,27 @@ none-arrives link k ListenFailed of = refl
 
 -- The sockets gave a happening of a link, at which its client or servers may begin to leave, and
 -- others for want of memory. What its events close, in order, is what is then to be closed.
-pub LoopStep-takes : (x y : Headless) (link : LinkId) (a b : Seen) (h : Happening) → is_wake h ≡ 0 → Call a b (h ∷ []) → (IsTrue b.tells → (k : ℕ) → b.sent k ≡ a.sent k) → (IsTrue b.tells → (k : ℕ) → b.choked k ≡ a.choked k) → (IsTrue b.tells → b.asked ≡ a.asked)
-    → SameSets a b → IsCalm x.core → x.core.quits ≡ false → TakesHappening x y h → x.core.starved ≤ y.core.starved → ((taken : List Happening) → All (IsOf link.0) (events_of taken h))
+pub LoopStep-takes : (x y : Headless) (link : LinkId) (a b : Seen) (h : Heard) (n : ℕ) → wake_count (happened h) ≡ 0 → listen_faults (happened h) ≡ n → Call a b (happened h) → (IsTrue b.tells → (k : ℕ) → b.sent k ≡ a.sent k) → (IsTrue b.tells → (k : ℕ) → b.choked k ≡ a.choked k) → (IsTrue b.tells → b.asked ≡ a.asked)
+    → SameSets a b → IsCalm x.core → x.core.quits ≡ false → TakesHappening x y h → x.core.starved ≤ y.core.starved → ((history : List Heard) → All (IsOf link.0) (events_of history h)) → ((k : ℕ) → has_come k (happened h) ≡ false)
     → (AgreesWithSockets x a → All (HasCause x y a b) (closes_asked y.core)) → KeepsSaved x.core y.core
-    → LoopStep true 0 (is_listen_fault h) x y a b
-LoopStep-takes x y link a b h wake call sent choked asked same calm going takes rises of causes saves =
+    → LoopStep true 0 n x y a b
+LoopStep-takes x y link a b h n wake faults call sent choked asked same calm going takes rises of nobody causes saves =
     let grows : closed_so_far y ≡ closed_so_far x ++ closes_asked y.core = ap (λ xs. xs ++ closes_asked y.core) (takes.closed ∙ sym (ap (λ cs. x.links.closed.items ++ cs) calm.parted ∙ append-nil x.links.closed.items)) in
-    LoopStep-step true 0 (is_listen_fault h) x y a b (h ∷ []) (closes_asked y.core) call (λ below. (let e = takes.turns in omega arith)) (omega arith) (omega arith)
-    rises (λ t s unstarved below. grows) (λ s. reasons-more x y a b (closes_asked y.core) grows (causes s)) (λ s. sides-kept x.core y.core takes.servers) (λ s. Onward-none x.core y.core (h ∷ []) (let r = takes.servers.reached in omega arith) (λ k. none-arrives link k h (of [])))
+    LoopStep-step true 0 n x y a b (happened h) (h ∷ []) (closes_asked y.core) (append-nil (happened h)) call (λ below. (let e = takes.turns in omega arith)) wake faults
+    rises (λ t s unstarved below. grows) (λ s. reasons-more x y a b (closes_asked y.core) grows (causes s)) (λ s. sides-kept x.core y.core takes.servers) (λ s. Onward-none x.core y.core (happened h) (let r = takes.servers.reached in omega arith) nobody)
     (λ over. absurd (false≢true (sym going ∙ over))) (λ t s. saves)
     (λ s. rw (takes.used, takes.listening, takes.refused) (among s))
     (λ t s on. takes.told a.taken s.among.unknown on (s.told (call.told t) going))
+    (λ t s on. takes.hears a.taken s.history (s.spells (call.told t)) s.among.unknown on (s.hears (call.told t) going))
+    (λ t s. takes.sockets a.taken s.history (s.spells (call.told t)) (s.hears (call.told t) going))
     (λ s none. takes.idle none ∙ calm.asked)
     (λ t s.
-    let m = takes.takes a.taken (s.told (call.told t) going) in
+    let m = takes.takes a.taken s.history (s.spells (call.told t)) (s.hears (call.told t) going) in
     let later = among s.among in
-    let one : All (IsOf link.0) m.events = all-front (IsOf link.0) m.events m.reaches.rest (subst (All (IsOf link.0)) m.reaches.front (of a.taken)) in
+    let one : All (IsOf link.0) m.events = all-front (IsOf link.0) m.events m.reaches.rest (subst (All (IsOf link.0)) m.reaches.front (of s.history)) in
     record {
       events = m.events;
-      reaches = rw (append-nil (events_of a.taken h)) m.reaches;
+      reaches = rw (append-nil (events_of s.history h)) m.reaches;
       rises = m.takes.keeps.rises;
       verdicts = m.takes.keeps.verdicts;
       advances = λ fed below rows were agrees.
@@ -252,13 +264,14 @@ LoopStep-takes x y link a b h wake call sent choked asked same calm going takes 
           MomentAdvances-takes rows (moment x a) (moment y b) (closes_asked y.core) m.events did takes.clients takes.used takes.servers later.seats (clients-above x.links.opened.items x.core x.used x.listening x.refused.items a s.among)
           (λ k used. party-used k x.links.opened.items y.links.opened.items x.core y.core x.used x.listening x.refused.items a used takes.clients takes.servers s.among) s.among.alone later.alone (sent t) (choked t)
           (rw (asked t, did.servers.wanted) (ap (λ xs. a.asked ++ xs) (asks_of-append x.core.servers.wanted (wanted_in (outs_of acts))) ∙ sym (append_assoc a.asked (asks_of x.core.servers.wanted) (asks_in acts))))
-          (h ∷ []) (call.taken t) (closes-taken link rows x.core y.core m.events calm takes.clients s.among.once later.alone later.seats s.among.limited s.among.order one did) (m.takes.stops fed below s.among.once rows were agrees);
+          (happened h) (call.taken t) (closes-taken link rows x.core y.core m.events calm takes.clients s.among.once later.alone later.seats s.among.limited s.among.order one did) (m.takes.stops fed below s.among.once rows were agrees);
       silent = λ over. absurd (false≢true (sym going ∙ over));
+      ends = (takes.ends a.taken s.history (s.spells (call.told t)) (s.hears (call.told t) going), tt);
       last = λ fed below rows were agrees on over.
           let did = m.takes.does fed below s.among.once rows were agrees in
           record {
             front = [];
-            happening = h;
+            heard = h;
             back = [];
             same = refl;
             within = some-events (state_of x.core rows) m.events (end-by x.core.quits y.core.quits (has_end (run (state_of x.core rows) m.events).acts) going did.quits over);
@@ -271,20 +284,22 @@ LoopStep-takes x y link a b h wake call sent choked asked same calm going takes 
 
 -- ---- causes
 
-line-caused : (link : LinkId) (other : ℕ) (bytes : List ℕ) (why : Cause) (a b : Seen) → IsOfLine link.0 other why → (IsTrue b.tells → b.taken ≡ a.taken ++ Read link bytes ∷ []) → CausedBy why other a b
-line-caused link other bytes LoginFailed a b p e = rw p (λ t. (bytes, record { front = []; rest = []; taken = e t }))
-line-caused link other bytes Quit a b p e = rw p (λ t. (bytes, record { front = []; rest = []; taken = e t }))
-line-caused link other bytes NoMemory a b p e = tt
-line-caused link other bytes Surplus a b p e = absurd p
-line-caused link other bytes CauseEnded a b p e = absurd p
-line-caused link other bytes CauseFailed a b p e = absurd p
-line-caused link other bytes Disconnected a b p e = absurd p
-line-caused link other bytes NickTaken a b p e = absurd p
+-- bytes were read of a link, which is a WebSocket where they are said to be
+read-caused : (socket : Bool) (link : LinkId) (other : ℕ) (bytes : List ℕ) (why : Cause) (a b : Seen) → IsOfRead socket link.0 other why → (IsTrue b.tells → b.taken ≡ a.taken ++ Read link bytes ∷ []) → (socket ≡ true → IsTrue b.tells → socket_on link.0 b.taken ≡ true) → CausedBy why other a b
+read-caused socket link other bytes LoginFailed a b p e is = rw p (λ t. (bytes, record { front = []; rest = []; taken = e t }))
+read-caused socket link other bytes Quit a b p e is = rw p (λ t. (bytes, record { front = []; rest = []; taken = e t }))
+read-caused socket link other bytes NoMemory a b p e is = tt
+read-caused socket link other bytes Surplus a b p e is = absurd p
+read-caused socket link other bytes CauseEnded a b p e is = rw p.0 (λ t. inr (record { bytes = bytes; gained = record { front = []; rest = []; taken = e t }; socket = is p.1 t }))
+read-caused socket link other bytes BadSocket a b p e is = rw p.0 (λ t. is p.1 t)
+read-caused socket link other bytes CauseFailed a b p e is = absurd p
+read-caused socket link other bytes Disconnected a b p e is = absurd p
+read-caused socket link other bytes NickTaken a b p e is = absurd p
 
-began : (link other : ℕ) (before after : Option Cause) (why : Cause) → before ≡ None → after ≡ Some why → LeavesFor link other before after → IsOfLine link other why
-began link other None None why e f h = absurd (let q : None ≡ Some why = f in cc)
-began link other None (Some c) why e f h = let same : c ≡ why = (let q : Some c ≡ Some why = f in cc) in subst (IsOfLine link other) same h
-began link other (Some c) after why e f h = absurd (let q : Some c ≡ None = e in cc)
+began : (socket : Bool) (link other : ℕ) (before after : Option Cause) (why : Cause) → before ≡ None → after ≡ Some why → LeavesForRead socket link other before after → IsOfRead socket link other why
+began socket link other None None why e f h = absurd (let q : None ≡ Some why = f in cc)
+began socket link other None (Some c) why e f h = let same : c ≡ why = (let q : Some c ≡ Some why = f in cc) in subst (IsOfRead socket link other) same h
+began socket link other (Some c) after why e f h = absurd (let q : Some c ≡ None = e in cc)
 
 there-leaving : (o : Option SeatView) (why : Cause) → server_leaving_in o ≡ Some why → is_some o ≡ true
 there-leaving None why e = absurd (let q : None ≡ Some why = e in cc)
@@ -318,11 +333,11 @@ causes-all x y a b given distinct seats sides taken none clients =
     (closes-all (λ k why. HasCause x y a b (record { link = record { 0 = k }; cause = why })) y.core.connections distinct (λ k why leaves. inl (clients k why leaves)))
 
 -- what is to be closed after a read has its cause in it
-pub causes-line : (link : LinkId) (bytes : List ℕ) (x y : Headless) (a b : Seen) → IsCalm x.core → LeavesAtLine link.0 x.core y.core → (IsTrue b.tells → b.taken ≡ a.taken ++ Read link bytes ∷ []) → Distinct (links_of x.core) → AreSeats y.core.servers → KeepsSides x.core y.core
+pub causes-read : (socket : Bool) (link : LinkId) (bytes : List ℕ) (x y : Headless) (a b : Seen) → IsCalm x.core → LeavesAtRead socket link.0 x.core y.core → (IsTrue b.tells → b.taken ≡ a.taken ++ Read link bytes ∷ []) → (socket ≡ true → IsTrue b.tells → socket_on link.0 b.taken ≡ true) → Distinct (links_of x.core) → AreSeats y.core.servers → KeepsSides x.core y.core
     → All (HasCause x y a b) (closes_asked y.core)
-causes-line link bytes x y a b calm h e distinct seats sides =
+causes-read socket link bytes x y a b calm h e is distinct seats sides =
     causes-all x y a b (Read link bytes ∷ []) (subst Distinct (sym h.links) distinct) seats sides e (λ k. refl)
-    (λ k why leaves. line-caused link k bytes why a b (began link.0 k (leaving_on k x.core.connections) (leaving_on k y.core.connections) why (calm-leaving k x.core.connections (calm-clients x.core calm)) leaves (h.leaving distinct k)) e)
+    (λ k why leaves. read-caused socket link k bytes why a b (began socket link.0 k (leaving_on k x.core.connections) (leaving_on k y.core.connections) why (calm-leaving k x.core.connections (calm-clients x.core calm)) leaves (h.leaving distinct k)) e is)
 
 no-memory : (a b : Seen) (k : ℕ) (before after : Option Cause) (why : Cause) → before ≡ None → after ≡ Some why → StaysOrStarves before after → CausedBy why k a b
 no-memory a b k before after why none some (inl e) = absurd (let q : None ≡ Some why = sym none ∙ sym e ∙ some in cc)
@@ -339,10 +354,10 @@ same-cause : (o : Option Cause) (cause why : Cause) → o ≡ Some cause → o �
 same-cause o cause why e f = let q : Some cause ≡ Some why = sym e ∙ f in cc
 
 -- what is to be closed after a link was lost
-pub causes-lost : (link : LinkId) (cause : Cause) (x y : Headless) (a b : Seen) (h : Happening) → IsCalm x.core → LosesLink link.0 cause x.core y.core → Distinct (links_of x.core) → AreSeats y.core.servers → KeepsSides x.core y.core → (IsTrue b.tells → b.taken ≡ a.taken ++ h ∷ []) → ((k : ℕ) → has_come k (h ∷ []) ≡ false) → CausedBy cause link.0 a b
+pub causes-lost : (link : LinkId) (cause : Cause) (x y : Headless) (a b : Seen) (given : List Happening) → IsCalm x.core → LosesLink link.0 cause x.core y.core → Distinct (links_of x.core) → AreSeats y.core.servers → KeepsSides x.core y.core → (IsTrue b.tells → b.taken ≡ a.taken ++ given) → ((k : ℕ) → has_come k given ≡ false) → CausedBy cause link.0 a b
     → All (HasCause x y a b) (closes_asked y.core)
-causes-lost link cause x y a b happening calm h distinct seats sides taken none caused =
-    causes-all x y a b (happening ∷ []) (subst Distinct (sym h.keeps.links) distinct) seats sides taken none (λ k why leaves. client-by k why leaves (eqb k link.0) refl)
+causes-lost link cause x y a b given calm h distinct seats sides taken none caused =
+    causes-all x y a b given (subst Distinct (sym h.keeps.links) distinct) seats sides taken none (λ k why leaves. client-by k why leaves (eqb k link.0) refl)
   where
     before : (k : ℕ) → leaving_on k x.core.connections ≡ None
     before k = calm-leaving k x.core.connections (calm-clients x.core calm)

@@ -53,12 +53,14 @@ unfoldable pub LoopStep-unwoken : (x y : Headless) (a b : Seen) → y.core ≡ x
     → Call a b [] → (IsTrue b.tells → (k : ℕ) → b.sent k ≡ a.sent k) → (IsTrue b.tells → (k : ℕ) → b.choked k ≡ a.choked k) → (IsTrue b.tells → b.asked ≡ a.asked) → SameSets a b → LoopStep false 0 0 x y a b
 LoopStep-unwoken x y a b core clock used listening refused unlisted turns ran opened closed calm call sent choked asked same =
     let none : closed_so_far y ≡ [] = ap (λ cs. cs ++ closes_asked y.core) closed ∙ ap closes_asked core ∙ calm.parted in
-    LoopStep-step false 0 0 x y a b [] [] call (λ below. omega arith) refl refl
+    LoopStep-step false 0 0 x y a b [] [] [] refl call (λ below. omega arith) refl refl
     (let q = ap (λ (c : CoreView). c.starved) core in omega arith)
     (λ t s. absurd (false≢true t)) (λ s. subst (All (HasReason x y a b)) (sym none) (All-nil (HasReason x y a b))) (λ s k h. subst (IsServers k) core h) (λ s. Onward-none x.core y.core [] (let e = ap (λ (c : CoreView). c.servers.used) core in omega arith) (λ k. refl))
     (λ over. ap (λ (c : CoreView). c.quits) core ∙ over) (λ t. absurd (false≢true t))
     (λ s. rw (opened, core, used, listening, refused) (among-same x.links.opened.items x.core x.used x.listening x.refused.items a b same s))
     (λ t s on. rw (append-nil a.taken, clock, opened, used, ran, refused, unlisted) (s.told (call.told t) (sym (ap (λ (c : CoreView). c.quits) core) ∙ on)))
+    (λ t s on. rw (append-nil a.taken, append-nil s.history, opened, used, ran) (s.hears (call.told t) (sym (ap (λ (c : CoreView). c.quits) core) ∙ on)))
+    (λ t s k e. rw (append-nil a.taken) (s.sockets (call.told t) k (rw opened at e)))
     (λ s stopped. ap (λ (c : CoreView). c.servers.wanted) core ∙ s.idle (sym ran ∙ stopped))
     (λ t s. record {
       events = [];
@@ -67,6 +69,7 @@ LoopStep-unwoken x y a b core clock used listening refused unlisted turns ran op
       verdicts = verdicts-same x.core.verdicts y.core.verdicts (ap (λ (c : CoreView). c.verdicts) core);
       advances = λ fed below told' were agrees. MomentAdvances-same told' (moment x a) (moment y b) core used (sent t) (choked t) (ap (λ xs. xs ++ asks_of y.core.servers.wanted) (asked t) ∙ ap (λ (c : CoreView). a.asked ++ asks_of c.servers.wanted) core) [] (call.taken t) [] refl were tt;
       silent = λ over. refl;
+      ends = tt;
       last = λ fed below told' were agrees going over. absurd (false≢true (sym going ∙ sym (ap (λ (c : CoreView). c.quits) core) ∙ over));
     })
 
@@ -74,15 +77,21 @@ closes-by : (x y : Headless) (a b : Seen) → AgreesWithSockets x a → WakesCor
 closes-by x y a b s w true told =
     let goes = w.continues.goes told s in
     record {
-      gained = w.continues.gained;
-      taken = w.continues.taken;
+      history = s.history;
+      spells = s.spells;
+      heard = w.continues.heard;
+      taken = λ t. w.continues.taken t ∙ ap (λ ts. a.taken ++ ts) (sym w.continues.spells);
+      ends = λ t. goes.ends;
       events = goes.events;
       reaches = λ t. goes.reaches;
       closed = λ t fed below told' were agrees. w.closed fed below ∙ sym (goes.advances fed below told' were agrees).closes;
     }
 closes-by x y a b s w false told = record {
-  gained = w.continues.gained;
-  taken = w.continues.taken;
+  history = s.history;
+  spells = s.spells;
+  heard = w.continues.heard;
+  taken = λ t. w.continues.taken t ∙ ap (λ ts. a.taken ++ ts) (sym w.continues.spells);
+  ends = λ t. absurd (false≢true (sym told ∙ t));
   events = [];
   reaches = λ t. absurd (false≢true (sym told ∙ t));
   closed = λ t. absurd (false≢true (sym told ∙ t));

@@ -34,6 +34,11 @@ use Rattle.wc_turns.specs.Served.{leaving_closes, closed_number, MayRun, Reaches
 use Rattle.wc_turns.specs.Steps.{MarksLink, ReportsSources, BeginsTurn, SameKinds, TakesAside, WakesParties}
 use Rattle.wc_turns.specs.Turns.{LoopStep, CausedBy, moment, closed_so_far, AgreesWithHappenings, AgreesOnLinks, AgreesWithSockets, MomentAdvances, HasCause, HasReason}
 use Rattle.wc_turns.specs.Waits.{LosesNone}
+use Rattle.wc_turns.specs.Events.{woke_events}
+use Rattle.wc_turns.specs.Heard.{Heard, Happened, happenings}
+use Rattle.wc_turns.specs.Turns.{AgreesWithHeard}
+use Rattle.wc_turns.proofs.HeardLemmas.{quiet-happened, socket-stays}
+use Rattle.wc_turns.proofs.HeardAgrees.{Hears-states, Hears-quiet, readings-kinds, socket-kinds}
 use Rattle.wc_turns.proofs.ConnectionLemmas.{calm-leaving, all-calm}
 use Rattle.wc_turns.proofs.ContainedLemmas.{starved-following}
 use Rattle.wc_turns.proofs.KeyedLemmas.{or-false, none_of, same-keys}
@@ -419,22 +424,25 @@ unfoldable pub LoopStep-woke : (x y z : Headless) (a b : Seen) (m : ℕ) (tokens
     → b.used ≡ a.used → ((k : ℕ) → b.there k ≡ a.there k) → ((k : ℕ) → b.undrained k ≡ (a.undrained k || list_any (is_link k) tokens)) → b.listening ≡ (a.listening || list_any is_listener tokens) → ((k : ℕ) → b.blocked k ≡ (a.blocked k && not (list_any (is_link k) tokens))) → All (IsThere a.there) tokens
     → x.core.quits ≡ false → IsCalm x.core → BeginsTurn x y m → ReportsSources y z tokens → z.refused.items ≡ [] → z.unlisted ≡ 0 → z.links.closed.items ≡ [] → LoopStep false 1 0 x z a b
 LoopStep-woke x y z a b m tokens call sent choked asked used there undrained listening blocked tokens_there going calm begins reports none none' empty =
-    LoopStep-step false 1 0 x z a b (Woke m ∷ []) (closes_asked z.core) call (λ below. (let t = begins.turns in let r = reports.turns in omega arith)) refl refl
+    LoopStep-step false 1 0 x z a b (Woke m ∷ []) (Happened (Woke m) ∷ []) (closes_asked z.core) refl call (λ below. (let t = begins.turns in let r = reports.turns in omega arith)) refl refl
     keeps.rises (λ t. absurd (false≢true t)) (λ s. reasons s) (λ s. sides-kept x.core z.core keeps.servers) (λ s. Onward-none x.core z.core (Woke m ∷ []) (let r = keeps.servers.reached in omega arith) (λ k. refl))
     (λ over. absurd (false≢true (sym going ∙ over))) (λ t. absurd (false≢true t)) among
-    (λ t s on. told (s.told (call.told t) going) on)
+    (λ t s on. told (s.told (call.told t) going) (let e = (s.hears (call.told t) going).events in omega arith) on)
+    (λ t s on. hears s.history (s.spells (call.told t)) (s.told (call.told t) going) (s.hears (call.told t) going) on)
+    (λ t s k e. socket-stays k a.taken (Woke m ∷ []) (s.sockets (call.told t) k (socket-kinds (at_key link_number k x.links.opened.items) (at_key link_number k z.links.opened.items) (subst (λ o. SameKinds o z.links.opened.items) begins.opened reports.kinds k) e)))
     (λ s stopped. began s stopped)
     (λ t s. record {
       events = (takes (s.told (call.told t) going)).takes.events;
-      reaches = rw (append-nil (events_of a.taken (Woke m))) ((takes (s.told (call.told t) going)).takes.reaches);
+      reaches = rw (ap (λ taken. woke_events taken m) (s.spells (call.told t)), append-nil (woke_events a.taken m)) ((takes (s.told (call.told t) going)).takes.reaches);
       rises = keeps.rises;
       verdicts = keeps.verdicts;
       advances = λ same below rows were agrees. advances t s same below rows were agrees (s.told (call.told t) going);
       silent = λ over. refl;
+      ends = (tt, tt);
       last = λ same below rows were agrees on over.
           let events = (takes (s.told (call.told t) going)).takes.events in
           let did = (takes (s.told (call.told t) going)).takes.takes.does same below s.among.once rows were agrees in
-          record { front = []; happening = Woke m; back = []; same = refl; within = some-events (state_of x.core rows) events (end-by x.core.quits z.core.quits _ going did.quits over); silent = refl };
+          record { front = []; heard = Happened (Woke m); back = []; same = refl; within = some-events (state_of x.core rows) events (end-by x.core.quits z.core.quits _ going did.quits over); silent = refl };
     })
   where
     keeps : KeepsClients x.core z.core
@@ -453,26 +461,33 @@ LoopStep-woke x y z a b m tokens call sent choked asked used there undrained lis
     map-size [] = refl
     map-size (l ∷ ls) = let ih = map-size ls in omega arith
 
-    takes : AgreesWithHappenings x.clock x.links.opened.items x.used x.ran x.refused.items x.unlisted a.taken → TakesAside x.refused.items x.core z.core x.ran z.ran (events_of a.taken (Woke m))
+    takes : AgreesWithHappenings x.clock x.links.opened.items x.used x.ran x.refused.items x.unlisted a.taken → TakesAside x.refused.items x.core z.core x.ran z.ran (woke_events a.taken m)
     takes t =
-        let P : CoreView → Type 0 = λ c. TakesAside x.refused.items x.core c x.ran z.ran (events_of a.taken (Woke m)) in
-        let size : length (events_of a.taken (Woke m)) ≡ length (wake_events x.clock m) + length x.refused.items + x.unlisted =
+        let P : CoreView → Type 0 = λ c. TakesAside x.refused.items x.core c x.ran z.ran (woke_events a.taken m) in
+        let size : length (woke_events a.taken m) ≡ length (wake_events x.clock m) + length x.refused.items + x.unlisted =
         (let l = length-append (wake_events (clock a.taken) m) (map loss_of (refused_since a.taken)) in let n = map-size (refused_since a.taken) in let c = t.counted in let w = ap (λ o. length (wake_events o m)) t.clock in omega arith) in
-        subst P (sym reports.core) (subst (λ n. TakesAside x.refused.items x.core y.core x.ran n (events_of a.taken (Woke m))) (sym reports.ran)
-        (begins.takes (events_of a.taken (Woke m)) (λ q. ap (λ o. wake_events o m ++ map loss_of (refused_since a.taken)) (sym t.clock) ∙ ap (λ links. wake_events x.clock m ++ map loss_of links) (sym (t.since q))) size))
+        subst P (sym reports.core) (subst (λ n. TakesAside x.refused.items x.core y.core x.ran n (woke_events a.taken m)) (sym reports.ran)
+        (begins.takes (woke_events a.taken m) (λ q. ap (λ o. wake_events o m ++ map loss_of (refused_since a.taken)) (sym t.clock) ∙ ap (λ links. wake_events x.clock m ++ map loss_of links) (sym (t.since q))) size))
 
-    reached : AgreesWithHappenings x.clock x.links.opened.items x.used x.ran x.refused.items x.unlisted a.taken → z.core.quits ≡ false → z.ran ≡ min (x.ran + length (events_of a.taken (Woke m))) (2 ^ 64 - 1)
-    reached t on =
+    reached : AgreesWithHappenings x.clock x.links.opened.items x.used x.ran x.refused.items x.unlisted a.taken → x.ran < 2 ^ 64 → z.core.quits ≡ false → z.ran ≡ min (x.ran + length (woke_events a.taken m)) (2 ^ 64 - 1)
+    reached t count on =
         let r = (takes t).takes.reaches in
         let e = ap length (r.front ∙ ap (λ xs. (takes t).takes.events ++ xs) (r.whole on) ∙ append-nil (takes t).takes.events) in
-        let c = r.counts (let f = t.events in omega arith) in
+        let c = r.counts count in
         omega arith
 
-    told : AgreesWithHappenings x.clock x.links.opened.items x.used x.ran x.refused.items x.unlisted a.taken → z.core.quits ≡ false → AgreesWithHappenings z.clock z.links.opened.items z.used z.ran z.refused.items z.unlisted (a.taken ++ Woke m ∷ [])
-    told t on =
+    told : AgreesWithHappenings x.clock x.links.opened.items x.used x.ran x.refused.items x.unlisted a.taken → x.ran < 2 ^ 64 → z.core.quits ≡ false → AgreesWithHappenings z.clock z.links.opened.items z.used z.ran z.refused.items z.unlisted (a.taken ++ Woke m ∷ [])
+    told t count on =
         rw (reports.clock, begins.clock, reports.used, begins.used, none, none')
-        (For-states (clock_from x.clock (Woke m ∷ [])) x.links.opened.items z.links.opened.items x.used z.ran [] 0 (a.taken ++ Woke m ∷ []) (rw begins.opened at reports.tails) (subst (λ o. SameKinds o z.links.opened.items) begins.opened reports.kinds) (missing-as x.links.opened.items z.links.opened.items numbers)
-        (For-woke x.clock x.links.opened.items x.used x.ran z.ran m x.refused.items x.unlisted a.taken (reached t on) t))
+        (For-states (clock_from x.clock (Woke m ∷ [])) x.links.opened.items z.links.opened.items x.used z.ran [] 0 (a.taken ++ Woke m ∷ []) (subst (λ o. SameKinds o z.links.opened.items) begins.opened reports.kinds) (missing-as x.links.opened.items z.links.opened.items numbers)
+        (For-woke x.clock x.links.opened.items x.used x.ran z.ran m x.refused.items x.unlisted a.taken (reached t count on) t))
+
+    hears : (history : List Heard) → happenings history ≡ a.taken → AgreesWithHappenings x.clock x.links.opened.items x.used x.ran x.refused.items x.unlisted a.taken → AgreesWithHeard x.links.opened.items x.used x.ran a.taken history → z.core.quits ≡ false
+        → AgreesWithHeard z.links.opened.items z.used z.ran (a.taken ++ Woke m ∷ []) (history ++ Happened (Woke m) ∷ [])
+    hears history spells t h on =
+        rw (reports.used, begins.used)
+        (Hears-states x.links.opened.items z.links.opened.items x.used z.ran (a.taken ++ Woke m ∷ []) (history ++ Happened (Woke m) ∷ []) (rw begins.opened at reports.tails) (readings-kinds x.links.opened.items z.links.opened.items (subst (λ o. SameKinds o z.links.opened.items) begins.opened reports.kinds))
+        (Hears-quiet x.links.opened.items x.used x.used x.ran z.ran a.taken history (Happened (Woke m)) spells (quiet-happened (Woke m) (λ k. refl) (λ k. refl)) (omega arith) (reached t (let e = h.events in omega arith) on ∙ ap (λ taken. min (x.ran + length (woke_events taken m)) (2 ^ 64 - 1)) (sym spells)) h))
 
     -- where no event was reached, none came to be wanted
     began : AgreesWithSockets x a → z.ran ≡ 0 → z.core.servers.wanted ≡ []

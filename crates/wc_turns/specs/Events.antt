@@ -1,14 +1,18 @@
--- The events that the happenings of the sockets spell.
+-- The events that the happenings of the sockets spell, with what the frames of WebSocket links came
+-- to.
 use Rattle.std.specs.Prelude.{ℕ, ◌+◌, Bool, true, false, List, [], ◌∷◌, ◌++◌, length, map}
-use Rattle.std.specs.Prelude.{if◌then◌else◌, ◌==◌, nat_lt, nat_le, ◌||◌, Option, Some, None}
+use Rattle.std.specs.Prelude.{if◌then◌else◌, ◌==◌, nat_lt, nat_le, ◌&&◌, ◌||◌, Option, Some, None}
 use Rattle.std.specs.List.{flat_map, list_any}
 use Rattle.wc_outside.specs.declared.happening.Happening.{Happening}
 use Rattle.wc_outside.specs.declared.happening.Happening.TheVariants.{Woke, Accepted, Read, Ended}
 use Rattle.wc_outside.specs.declared.happening.Happening.TheVariants.{Failed, Connected, Refused}
 use Rattle.wc_outside.specs.declared.happening.Happening.TheVariants.{ListenFailed}
 use Rattle.wc_core.specs.Events.{Event, Start, Tick, Arrives, Line, Stands, Ends, Fails}
-use Rattle.wc_core.specs.Events.{ListenFails}
+use Rattle.wc_core.specs.Events.{Breaks, ListenFails}
+use Rattle.wc_framing.specs.Opening.{begins}
 use Rattle.wc_text.specs.declared.names.LinkId.{LinkId}
+use Rattle.wc_turns.specs.Heard.{Heard, Happened, Unframed, NotPut, happenings}
+use Rattle.wc_turns.specs.Heard.{SocketEnd, GoesOn, Closes, Broken}
 use Rattle.wc_turns.specs.Lines.{ended_lines, rest, without_cr, line_limit}
 
 -- the bytes of a happening that came on a link
@@ -50,9 +54,26 @@ comes_on link ListenFailed = false
 abbrev pub has_come : ℕ → List Happening → Bool
 has_come link happenings = list_any (comes_on link) happenings
 
--- what comes after the last LF of all bytes that came on a link
-abbrev pub tail_on : ℕ → List Happening → List ℕ
-tail_on link happenings = rest [] (flat_map (bytes_on link) happenings)
+-- a client's link is a WebSocket where its first bytes begin a head that may ask for one
+abbrev pub socket_on : ℕ → List Happening → Bool
+socket_on link taken = has_come link taken && begins (flat_map (bytes_on link) taken)
+
+-- what was heard adds this to the text of a link, which is a WebSocket or not: the bytes of all
+-- reads of a plain link are one text, and what the frames of a WebSocket came to
+abbrev pub text_in : ℕ → Bool → Heard → List ℕ
+text_in link false (Happened happening) = bytes_on link happening
+text_in link true (Happened happening) = []
+text_in link false (Unframed other bytes text end) = if other.0 == link then bytes else []
+text_in link true (Unframed other bytes text end) = if other.0 == link then text else []
+text_in link socket (NotPut other) = []
+
+-- what comes after the last LF of the text of a link, which is a WebSocket or not
+abbrev pub tail_as : Bool → ℕ → List Heard → List ℕ
+tail_as socket link history = rest [] (flat_map (text_in link socket) history)
+
+-- the same of a link that is what its bytes tell
+abbrev pub tail_on : ℕ → List Heard → List ℕ
+tail_on link history = tail_as (socket_on link (happenings history)) link history
 
 -- a wake is the start, or a tick where it comes 100 milliseconds after the last one, or before it
 abbrev pub is_tick : ℕ → ℕ → Bool
@@ -113,25 +134,53 @@ line_events link line = if nat_le (length line) line_limit
 abbrev pub read_events : ℕ → List ℕ → List ℕ → List Event
 read_events link line bytes = flat_map (line_events link) (ended_lines line bytes)
 
--- the events of a happening, after those that came before; the connections that were refused are
--- lost after the next wake
-abbrev pub events_of : List Happening → Happening → List Event
-events_of before (Woke moment) = wake_events (clock before) moment
-    ++ map loss_of (refused_since before)
-events_of before (Accepted link nonce) = Arrives link.0 nonce ∷ []
-events_of before (Read link bytes) = read_events link.0 (tail_on link.0 before) bytes
-events_of before (Ended link) = Ends link.0 ∷ []
-events_of before (Failed link) = Fails link.0 ∷ []
-events_of before (Connected link) = Stands link.0 ∷ []
-events_of before (Refused link) = []
-events_of before ListenFailed = ListenFails ∷ []
+-- what a read adds to the text of a link, which is a WebSocket or not
+abbrev pub text_of_read : Bool → List ℕ → List ℕ → List ℕ
+text_of_read false bytes text = bytes
+text_of_read true bytes text = text
 
--- the events of happenings, after those that came before
-abbrev pub events_from : List Happening → List Happening → List Event
+abbrev pub text_events : Bool → ℕ → List Heard → List ℕ → List ℕ → List Event
+text_events socket link before bytes text =
+    read_events link (tail_as socket link before) (text_of_read socket bytes text)
+
+-- the lines that end with a read of a link, whose frames came to this text, if it is a WebSocket
+abbrev pub came_events : LinkId → List Heard → List ℕ → List ℕ → List Event
+came_events link before bytes text = text_events
+    (socket_on link.0 (happenings before ++ Read link bytes ∷ [])) link.0 before bytes text
+
+-- the events of a wake; the connections that were refused since the last one are lost after it
+abbrev pub woke_events : List Happening → ℕ → List Event
+woke_events taken moment = wake_events (clock taken) moment ++ map loss_of (refused_since taken)
+
+-- the events of a happening, after what was heard before
+abbrev pub happening_events : List Heard → Happening → List Event
+happening_events before (Woke moment) = woke_events (happenings before) moment
+happening_events before (Accepted link nonce) = Arrives link.0 nonce ∷ []
+happening_events before (Read link bytes) = came_events link before bytes []
+happening_events before (Ended link) = Ends link.0 ∷ []
+happening_events before (Failed link) = Fails link.0 ∷ []
+happening_events before (Connected link) = Stands link.0 ∷ []
+happening_events before (Refused link) = []
+happening_events before ListenFailed = ListenFails ∷ []
+
+-- the end of a WebSocket link is an event of it
+abbrev pub end_events : ℕ → SocketEnd → List Event
+end_events link GoesOn = []
+end_events link Closes = Ends link ∷ []
+end_events link Broken = Breaks link ∷ []
+
+-- the events of what was heard, after what was heard before
+abbrev pub events_of : List Heard → Heard → List Event
+events_of before (Happened happening) = happening_events before happening
+events_of before (Unframed link bytes text end) = came_events link before bytes text
+    ++ end_events link.0 end
+events_of before (NotPut link) = Breaks link.0 ∷ []
+
+abbrev pub events_from : List Heard → List Heard → List Event
 events_from before [] = []
-events_from before (happening ∷ happenings) = events_of before happening
-    ++ events_from (before ++ happening ∷ []) happenings
+events_from before (heard ∷ history) = events_of before heard
+    ++ events_from (before ++ heard ∷ []) history
 
 -- all events
-abbrev pub whole : List Happening → List Event
-whole happenings = events_from [] happenings
+abbrev pub whole : List Heard → List Event
+whole history = events_from [] history

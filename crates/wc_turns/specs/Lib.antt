@@ -1,6 +1,8 @@
 pub mod Contained
 pub mod Events
+pub mod Framed
 pub mod Hands
+pub mod Heard
 pub mod Lines
 pub mod Links
 pub mod Parties
@@ -8,6 +10,7 @@ pub mod Parts
 pub mod Run
 pub mod Saves
 pub mod Served
+pub mod Sockets
 pub mod Sources
 pub mod Steps
 pub mod Tails

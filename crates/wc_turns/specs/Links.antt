@@ -2,6 +2,9 @@
 use Rattle.std.specs.Prelude.{ℕ, Bool, true, false, List, [], ◌∷◌, ◌++◌, Option, Some, None}
 use Rattle.std.specs.Prelude.{◌≡◌, is_some, not}
 use Rattle.wc_outside.specs.Keyed.{at_key, put_at}
+use Rattle.wc_framing.specs.declared.framing.Framing.{Framing}
+use Rattle.wc_framing.specs.Framing.{is_socket, silent}
+use Rattle.wc_turns.specs.Framed.{first_framing, frames_in, gone_in}
 use Rattle.wc_turns.specs.declared.links.Closed.{Closed}
 use Rattle.wc_text.specs.declared.names.LinkId.{LinkId}
 use Rattle.wc_turns.specs.declared.links.LinkState.{LinkState}
@@ -24,6 +27,16 @@ abbrev pub is_blocked : Option LinkState → Bool
 is_blocked (Some state) = state.blocked
 is_blocked None = false
 
+-- the frames of a WebSocket that are still to be sent on a link
+abbrev pub frames_of : Option LinkState → Option (List ℕ)
+frames_of (Some state) = frames_in state.framing
+frames_of None = None
+
+-- whether a link is a WebSocket
+abbrev pub is_socket_at : Option LinkState → Bool
+is_socket_at (Some state) = is_socket state.framing
+is_socket_at None = false
+
 -- whether a link is kept as a connection that does not stand yet
 abbrev pub is_connecting : Option LinkState → Bool
 is_connecting (Some state) = state.connecting
@@ -35,17 +48,22 @@ is_there (Some state) = not state.refused
 is_there None = false
 
 -- to whom a link leads: the name of a server, or none for a client; whether it is a connection that
--- does not stand yet; and whether that was refused as it was asked for
+-- does not stand yet; whether that was refused as it was asked for; and how its bytes are framed, but
+-- for what is to be sent; and whether it is to be closed as a WebSocket
 pub record Kind : Type 0 where
   pub server : Option (List ℕ)
   pub connecting : Bool
   pub refused : Bool
+  pub framing : Framing
+  pub ended : Bool
 
 abbrev pub kind_of : Option LinkState → Option Kind
 kind_of (Some state) = Some (record {
   server = state.server;
   connecting = state.connecting;
   refused = state.refused;
+  framing = silent state.framing;
+  ended = state.ended;
 })
 kind_of None = None
 
@@ -75,6 +93,10 @@ drained_state state = record state { undrained = false }
 abbrev pub written_link : Bool → LinkState → LinkState
 written_link blocked state = record state { blocked = blocked }
 
+-- a link after the first bytes of its frames are sent
+abbrev pub gone_frames : ℕ → LinkState → LinkState
+gone_frames count state = record state { framing = gone_in count state.framing }
+
 -- a connection that stands
 abbrev pub standing_state : LinkState → LinkState
 standing_state state = record state { connecting = false }
@@ -88,6 +110,8 @@ new_state link server refused = record {
   connecting = is_some server;
   refused = refused;
   tail = record { line = []; over = false };
+  framing = first_framing (is_some server);
+  ended = false;
   undrained = false;
   blocked = false;
 }

@@ -14,7 +14,7 @@ use Rattle.wc_core.specs.Served.{links_of, or_else, Distinct}
 use Rattle.wc_turns.specs.declared.links.Closed.{Closed}
 use Rattle.wc_turns.specs.declared.headless.Headless.{Headless}
 use Rattle.wc_turns.specs.Contained.{KeepsLinks}
-use Rattle.wc_turns.specs.Links.{link_number, IsStanding}
+use Rattle.wc_turns.specs.Links.{link_number, frames_of, IsStanding}
 use Rattle.wc_turns.specs.Parties.{has_party, closes_asked, party_count, IsCalm}
 use Rattle.wc_turns.specs.Served.{closed_number}
 use Rattle.wc_turns.specs.Sources.{NothingBecameReady, TakesNothing, bytes_taken, arrivals}
@@ -52,6 +52,9 @@ pub record SendsOn (link : ℕ) (x y : Headless) (before after : Seen) : Type 0 
   pub leaving : closes_asked y.core ≡ closes_asked x.core
   pub why : leaving_of link y.core ≡ leaving_of link x.core
   pub parties : (other : ℕ) → other ≢ link → SameParty other x.core y.core
+  pub frames : (other : ℕ) → other ≢ link →
+      frames_of (at_key link_number other y.links.opened.items)
+      ≡ frames_of (at_key link_number other x.links.opened.items)
   pub blocked : (other : ℕ) → other ≢ link → after.blocked other ≡ before.blocked other
   pub stands : (other : ℕ) → IsStanding other x.links.opened.items →
       IsStanding other y.links.opened.items

@@ -5,6 +5,7 @@ use Rattle.wc_text.specs.declared.names.LinkId.{LinkId}
 use Rattle.wc_text.specs.declared.names.Cause.{Cause}
 use Rattle.wc_text.specs.declared.names.Cause.TheVariants.{Ended, Failed, LoginFailed, NoMemory}
 use Rattle.wc_text.specs.declared.names.Cause.TheVariants.{Surplus, Quit, Disconnected, NickTaken}
+use Rattle.wc_text.specs.declared.names.Cause.TheVariants.{BadSocket}
 use Rattle.wc_board.specs.declared.connection.Connection.{Connection}
 use Rattle.wc_core.specs.Events.{Event}
 use Rattle.wc_core.specs.CoreView.{CoreView}
@@ -71,6 +72,7 @@ IsOfLine link other Failed = ⊥
 IsOfLine link other Surplus = ⊥
 IsOfLine link other Disconnected = ⊥
 IsOfLine link other NickTaken = ⊥
+IsOfLine link other BadSocket = ⊥
 
 -- a client that was leaving goes on so, and one that is leaving else can leave at a line of this
 -- link
@@ -86,6 +88,34 @@ pub record LeavesAtLine (link : ℕ) (old new : CoreView) : Type 0 where
   pub links : links_of new ≡ links_of old
   pub leaving : Distinct (links_of old) → (other : ℕ) →
       LeavesFor link other (leaving_on other old.connections) (leaving_on other new.connections)
+  pub saves : KeepsSaved old new
+  pub servers : ServersKeep old.servers new.servers
+
+-- for what a client can leave at a read of a link, which is a WebSocket or not: at a line of it, and
+-- its own one at its end
+abbrev pub IsOfRead : Bool → ℕ → ℕ → Cause → Type 0
+IsOfRead socket link other NoMemory = Unit {0}
+IsOfRead socket link other LoginFailed = other ≡ link
+IsOfRead socket link other Quit = other ≡ link
+IsOfRead socket link other Ended = (other ≡ link) × (socket ≡ true)
+IsOfRead socket link other BadSocket = (other ≡ link) × (socket ≡ true)
+IsOfRead socket link other Failed = ⊥
+IsOfRead socket link other Surplus = ⊥
+IsOfRead socket link other Disconnected = ⊥
+IsOfRead socket link other NickTaken = ⊥
+
+abbrev pub LeavesForRead : Bool → ℕ → ℕ → Option Cause → Option Cause → Type 0
+LeavesForRead socket link other (Some before) now = now ≡ Some before
+LeavesForRead socket link other None (Some cause) = IsOfRead socket link other cause
+LeavesForRead socket link other None None = Unit {0}
+
+-- the same links have clients, those that began to leave could do so at a read of this link, servers
+-- come as they were begun, and what was saved is not lost
+pub record LeavesAtRead (socket : Bool) (link : ℕ) (old new : CoreView) : Type 0 where
+  pub rises : old.starved ≤ new.starved
+  pub links : links_of new ≡ links_of old
+  pub leaving : Distinct (links_of old) → (other : ℕ) → LeavesForRead socket link other
+      (leaving_on other old.connections) (leaving_on other new.connections)
   pub saves : KeepsSaved old new
   pub servers : ServersKeep old.servers new.servers
 

@@ -8,7 +8,9 @@ use Rattle.wc_outside.specs.Faults.{Rose}
 use Rattle.wc_turns.specs.declared.headless.Headless.{Headless}
 use Rattle.wc_turns.specs.Contained.{KeepsLinks}
 use Rattle.wc_turns.specs.Parties.{IsCalm, unsent_on}
-use Rattle.wc_turns.specs.Turns.{HasGained, AgreesWithSockets, LoopStep}
+use Rattle.wc_turns.specs.Turns.{HasGained, AgreesWithSockets, LoopStep, left_on}
+use Rattle.wc_framing.specs.Messages.{HasNoMessage}
+use Rattle.wc_turns.specs.Framed.{frames_in}
 use Rattle.wc_outside.specs.declared.happening.Happening.{Happening}
 use Rattle.wc_outside.specs.declared.happening.Happening.TheVariants.{Woke, Accepted, Read, Ended}
 use Rattle.wc_outside.specs.declared.happening.Happening.TheVariants.{Failed, Connected, Refused}
@@ -20,7 +22,7 @@ use Rattle.wc_turns.specs.Events.{bytes_on}
 use Rattle.wc_board.specs.Connections.{connection_link}
 use Rattle.wc_servers.specs.Seats.{SeatView, seat_link}
 use Rattle.wc_core.specs.CoreView.{CoreView}
-use Rattle.wc_turns.specs.Links.{link_number, is_blocked}
+use Rattle.wc_turns.specs.Links.{link_number, is_blocked, is_socket_at}
 use Rattle.wc_outside.specs.Keyed.{at_key}
 
 -- how many bytes were taken of a link
@@ -57,25 +59,40 @@ abbrev pub IsHeard : Seen → Seen → Type 0
 IsHeard before after = IsTrue after.tells → after.listening ≡ true → arrivals before.taken + 1024
     ≤ arrivals after.taken
 
--- nothing is unsent on a link, or its last write found no room
-abbrev pub IsWritten : ℕ → CoreView → Seen → Type 0
-IsWritten link core seen = (unsent_on link core ≡ []) ⊎ (seen.blocked link ≡ true)
+-- a WebSocket is owed no whole message that is not put into a frame
+abbrev pub IsPutWhere : Bool → List ℕ → Type 0
+IsPutWhere true unsent = HasNoMessage unsent
+IsPutWhere false unsent = Unit {0}
+
+abbrev pub IsPut : ℕ → Headless → Type 0
+IsPut link headless = IsPutWhere
+    (is_socket_at (at_key link_number link headless.links.opened.items))
+    (unsent_on link headless.core)
+
+-- nothing is left to be sent on a link
+pub record IsClear (link : ℕ) (headless : Headless) : Type 0 where
+  pub left : left_on link headless ≡ []
+  pub put : IsPut link headless
+
+-- nothing is left to be sent on a link, or its last write found no room
+abbrev pub IsWritten : ℕ → Headless → Seen → Type 0
+IsWritten link headless seen = IsClear link headless ⊎ (seen.blocked link ≡ true)
 
 -- each source was served between two moments, and each link is written
-pub record AllServed (core : CoreView) (before after : Seen) : Type 0 where
+pub record AllServed (headless : Headless) (before after : Seen) : Type 0 where
   pub links : (link : ℕ) → 1 ≤ link → IsServed link before after
   pub listener : IsHeard before after
-  pub written : (link : ℕ) → 1 ≤ link → IsWritten link core after
+  pub written : (link : ℕ) → 1 ≤ link → IsWritten link headless after
 
--- nothing is unsent on a link, or its last write found no room, or it failed between
-abbrev pub IsSent : ℕ → CoreView → Seen → Seen → Type 0
-IsSent link core before after = (unsent_on link core ≡ [])
+-- nothing is left to be sent on a link, or its last write found no room, or it failed between
+abbrev pub IsSent : ℕ → Headless → Seen → Seen → Type 0
+IsSent link headless before after = (left_on link headless ≡ [])
     ⊎ ((after.blocked link ≡ true) ⊎ (Rose before.faults.links after.faults.links
     × (IsTrue after.tells → HasGained before after (Failed (record { 0 = link })))))
 
 -- after `/quit` each link with unsent bytes is written once
-abbrev pub AllSent : CoreView → Seen → Seen → Type 0
-AllSent core before after = (link : ℕ) → 1 ≤ link → IsSent link core before after
+abbrev pub AllSent : Headless → Seen → Seen → Type 0
+AllSent headless before after = (link : ℕ) → 1 ≤ link → IsSent link headless before after
 
 -- the sources that these tokens name are served between two moments, each once, unless `/quit` was
 -- run; the listener failed so often
@@ -114,11 +131,25 @@ abbrev pub may_write_seat : List LinkState → SeatView → Bool
 may_write_seat states seat = not (length seat.unsent == 0)
     && not (is_blocked (at_key link_number seat.link states))
 
+-- whether there are frames to write, and the link is not kept as one without room for them
+abbrev pub may_write_these : Bool → Option (List ℕ) → Bool
+may_write_these blocked None = false
+may_write_these blocked (Some frames) = not blocked && not (length frames == 0)
+
+-- whether this is so of a WebSocket link
+abbrev pub may_write_frames : LinkState → Bool
+may_write_frames state = may_write_these state.blocked (frames_in state.framing)
+
 -- whether a link has a client or a server of which this is so
-abbrev pub may_write_on : ℕ → List LinkState → CoreView → Bool
-may_write_on link states core =
+abbrev pub may_write_party : ℕ → List LinkState → CoreView → Bool
+may_write_party link states core =
     has_flag (may_write states) (at_key connection_link link core.connections)
     || has_flag (may_write_seat states) (at_key seat_link link core.servers.seats)
+
+-- whether it has, or it has frames
+abbrev pub may_write_on : ℕ → List LinkState → CoreView → Bool
+may_write_on link states core = may_write_party link states core
+    || has_flag may_write_frames (at_key link_number link states)
 
 -- whether a link is not drained, and these tokens do not name it
 abbrev pub is_left_over : List Token → LinkState → Bool

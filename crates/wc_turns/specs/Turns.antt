@@ -1,7 +1,8 @@
 -- What the loop keeps, and how it goes on from one moment to another.
 use Rattle.std.specs.Prelude.{ℕ, ◌+◌, ◌-◌, ◌^◌, ◌≡◌, ◌<◌, ◌≤◌, ◌==◌, Bool, true}
 use Rattle.std.specs.Prelude.{false, ◌&&◌, ◌||◌, nat_le, min, List, [], ◌∷◌, ◌++◌, length, map}
-use Rattle.std.specs.Prelude.{Option, None, is_some, not, ◌⊎◌, IfSome, Result, Ok, Err, IsTrue, All}
+use Rattle.std.specs.Prelude.{Option, None, Some, is_some, is_none, not, ◌⊎◌, IfSome, Result, Ok, Err}
+use Rattle.std.specs.Prelude.{IsTrue, All}
 use Rattle.std.specs.List.{flat_map, list_any}
 use Rattle.wc_text.specs.declared.names.Address.{Address}
 use Rattle.wc_text.specs.declared.names.LinkId.{LinkId}
@@ -9,7 +10,7 @@ use Rattle.wc_text.specs.declared.names.Cause.{Cause}
 use Rattle.wc_text.specs.declared.names.Cause.TheVariants.{Ended as CauseEnded}
 use Rattle.wc_text.specs.declared.names.Cause.TheVariants.{Failed as CauseFailed, LoginFailed}
 use Rattle.wc_text.specs.declared.names.Cause.TheVariants.{NoMemory, Surplus, Quit as CauseQuit}
-use Rattle.wc_text.specs.declared.names.Cause.TheVariants.{Disconnected, NickTaken}
+use Rattle.wc_text.specs.declared.names.Cause.TheVariants.{Disconnected, NickTaken, BadSocket}
 use Rattle.wc_outside.specs.Seen.{Seen}
 use Rattle.wc_outside.specs.Faults.{NeverFall, Rose}
 use Rattle.wc_outside.specs.declared.happening.Happening.{Happening}
@@ -36,10 +37,18 @@ use Rattle.wc_turns.specs.declared.turn.TurnEnd.{TurnEnd}
 use Rattle.wc_turns.specs.declared.turn.TurnEnd.TheVariants.{GoOn, Quit, WaitFault, ListenFault}
 use Rattle.wc_turns.specs.declared.turn.TurnEnd.TheVariants.{KeeperFault}
 use Rattle.wc_outside.specs.Keyed.{at_key}
-use Rattle.wc_turns.specs.Events.{bytes_on, tail_on, has_stood, has_come, clock, refused_since, events_of}
-use Rattle.wc_turns.specs.Events.{events_from, whole}
+use Rattle.wc_framing.specs.declared.framing.Framing.{Framing}
+use Rattle.wc_framing.specs.declared.framing.Framing.TheVariants as framing
+use Rattle.wc_framing.specs.Framing.{is_socket, FramedAs}
+use Rattle.wc_framing.specs.Opening.{begins}
+use Rattle.wc_framing.specs.Unframed.{ReadsClose, IsBroken}
+use Rattle.wc_turns.specs.Events.{bytes_on, text_in, tail_on, has_stood, has_come, clock}
+use Rattle.wc_turns.specs.Events.{refused_since, socket_on, events_of, events_from, whole}
 use Rattle.wc_turns.specs.Hands.{Point, Delivers}
+use Rattle.wc_turns.specs.Heard.{Heard, Happened, Unframed, NotPut, happened, happenings}
+use Rattle.wc_turns.specs.Heard.{SocketEnd, GoesOn, Closes, Broken}
 use Rattle.wc_turns.specs.Links.{link_number, is_undrained, is_blocked, is_connecting, is_there}
+use Rattle.wc_turns.specs.Links.{frames_of, is_socket_at}
 use Rattle.wc_turns.specs.Run.{closings, EndsAtQuit}
 use Rattle.wc_turns.specs.Parties.{has_party, unsent_on, owed_to, asks_of, asks_in, is_refused}
 use Rattle.wc_turns.specs.Parties.{closes_asked}
@@ -47,14 +56,51 @@ use Rattle.wc_turns.specs.Served.{ReachesEvents, MayTake}
 use Rattle.wc_turns.specs.Tails.{IsTail}
 use Rattle.wc_eval.specs.Verdicts.{Agrees, Stay}
 
--- what the loop keeps is what the happenings make of it: the clock, what came after the last LF of
--- each link, which connections stand, which ones were refused since the last wake, of which some are
--- not listed, and how many events were reached
+-- the framing of a client's link, which is to be closed as a WebSocket or not, is what its bytes make
+-- of it
+abbrev pub FramedUnless : Bool → List ℕ → List ℕ → Framing → Type 0
+FramedUnless true bytes text framed = (begins bytes ≡ true) × (is_socket framed ≡ true)
+FramedUnless false bytes text framed = FramedAs bytes text framed
+
+-- The same of a client, or of a server of this name. That of a WebSocket has made this text of them,
+-- and nothing whole is left to be read.
+abbrev pub FramedFor : Option (List ℕ) → Bool → List ℕ → List ℕ → Framing → Type 0
+FramedFor None ended bytes text framed = FramedUnless ended bytes text framed
+FramedFor (Some name) ended bytes text framed = (ended ≡ false) × (framed ≡ framing.Plain)
+
+abbrev pub IsFramed : List ℕ → List ℕ → LinkState → Type 0
+IsFramed bytes text state = FramedFor state.server state.ended bytes text state.framing
+
+-- what the frames of a link came to, if it is a WebSocket
+abbrev pub frames_text : ℕ → List Heard → List ℕ
+frames_text link history = flat_map (text_in link true) history
+
+-- A WebSocket link to which these bytes came, and whose frames came to this text, has this end: a
+-- close that was read, or what came is no WebSocket.
+abbrev pub EndsAs : SocketEnd → List ℕ → List ℕ → Type 0
+EndsAs GoesOn bytes text = Unit {0}
+EndsAs Closes bytes text = ReadsClose bytes text
+EndsAs Broken bytes text = IsBroken bytes text
+
+-- what is heard of frames is of a WebSocket link, which it ends as all its bytes do
+abbrev pub EndsFor : List Heard → Heard → Type 0
+EndsFor before (Happened happening) = Unit {0}
+EndsFor before (Unframed link bytes text end) =
+    (socket_on link.0 (happenings before ++ Read link bytes ∷ []) ≡ true)
+    × EndsAs end (flat_map (bytes_on link.0) (happenings before) ++ bytes)
+    (frames_text link.0 before ++ text)
+EndsFor before (NotPut link) = socket_on link.0 (happenings before) ≡ true
+
+-- the same of one after another
+abbrev pub EndsEach : List Heard → List Heard → Type 0
+EndsEach before [] = Unit {0}
+EndsEach before (heard ∷ more) = EndsFor before heard × EndsEach (before ++ heard ∷ []) more
+
+-- what the loop keeps is what the happenings make of it: the clock, which connections stand, and which
+-- ones were refused since the last wake, of which some are not listed
 pub record AgreesWithHappenings (clocked : Option ℕ) (states : List LinkState) (used ran : ℕ)
     (refused : List LinkId) (unlisted : ℕ) (taken : List Happening) : Type 0 where
   pub clock : clocked ≡ clock taken
-  pub tails : (link : ℕ) → IfSome (at_key link_number link states)
-      (λ state. IsTail (tail_on link taken) state.tail)
   -- no byte came on a link that is not used yet, nor is it told that one stands
   pub fresh : (link : ℕ) → used < link → flat_map (bytes_on link) taken ≡ []
   pub unmade : (link : ℕ) → used < link → has_stood link taken ≡ false
@@ -64,13 +110,28 @@ pub record AgreesWithHappenings (clocked : Option ℕ) (states : List LinkState)
       (λ state. state.connecting ≡ (is_some state.server && not (has_stood link taken)))
   pub unread : (link : ℕ) → is_connecting (at_key link_number link states) ≡ true →
       flat_map (bytes_on link) taken ≡ []
-  pub events : ran ≡ min (length (whole taken)) (2 ^ 64 - 1)
   pub since : unlisted ≡ 0 → refused ≡ refused_since taken
   pub counted : length refused + unlisted ≡ length (refused_since taken)
   pub within : length refused + unlisted ≤ used
   -- before the start, which is the first event, nothing happened, and no link is there
   pub silent : ran ≡ 0 → taken ≡ []
   pub empty : ran ≡ 0 → (link : ℕ) → at_key link_number link states ≡ None
+
+-- what the loop keeps is what was heard makes of it: what came after the last LF of each link, how
+-- its bytes are framed, and how many events were reached
+pub record AgreesWithHeard (states : List LinkState) (used ran : ℕ) (taken : List Happening)
+    (history : List Heard) : Type 0 where
+  pub tails : (link : ℕ) → IfSome (at_key link_number link states)
+      (λ state. IsTail (tail_on link history) state.tail)
+  pub framed : (link : ℕ) → IfSome (at_key link_number link states)
+      (IsFramed (flat_map (bytes_on link) taken) (frames_text link history))
+  -- a link that came has a client, and one that was asked for a server
+  pub came : (link : ℕ) → IfSome (at_key link_number link states)
+      (λ state. has_come link taken ≡ is_none state.server)
+  -- no link came that is not used yet, nor has it frames
+  pub uncome : (link : ℕ) → used < link → has_come link taken ≡ false
+  pub unframed : (link : ℕ) → used < link → frames_text link history ≡ []
+  pub events : ran ≡ min (length (whole history)) (2 ^ 64 - 1)
 
 -- The links that the loop keeps are those of these sockets, and connections that were refused. Each
 -- has a client or a server, also one that is leaving, and so has each connection that is still to be
@@ -102,13 +163,22 @@ pub record AgreesOnLinks (states : List LinkState) (core : CoreView) (used : ℕ
   pub reached : core.servers.used ≡ used + length core.servers.wanted
   pub limited : core.servers.used ≤ 2 ^ 62
 
--- what the loop keeps is that of these sockets, until `/quit` is run
+-- What the loop keeps is that of these sockets, until `/quit` is run. What was heard is what the
+-- sockets gave, with what the frames of WebSocket links came to.
 pub record AgreesWithSockets (headless : Headless) (seen : Seen) : Type 0 where
+  pub history : List Heard
+  pub spells : IsTrue seen.tells → happenings history ≡ seen.taken
   pub among : AgreesOnLinks headless.links.opened.items headless.core headless.used
       headless.listening headless.refused.items seen
   pub told : IsTrue seen.tells → headless.core.quits ≡ false →
       AgreesWithHappenings headless.clock headless.links.opened.items headless.used
       headless.ran headless.refused.items headless.unlisted seen.taken
+  pub hears : IsTrue seen.tells → headless.core.quits ≡ false →
+      AgreesWithHeard headless.links.opened.items headless.used headless.ran seen.taken history
+  -- what is kept as a WebSocket began as one
+  pub sockets : IsTrue seen.tells → (link : ℕ) →
+      is_socket_at (at_key link_number link headless.links.opened.items) ≡ true →
+      socket_on link seen.taken ≡ true
   -- before the start no connection is to be asked for
   pub idle : headless.ran ≡ 0 → headless.core.servers.wanted ≡ []
 
@@ -174,14 +244,14 @@ pub record OnOneSide (old new : CoreView) (acts : List Act) : Type 0 where
   pub servers : (link : ℕ) → IsServers link new → IsServers link old × (sent_to link acts ≡ [])
 
 -- From one moment to another the core, where these rows were told before, takes these events, of
--- which none comes after `/quit`, what it owes is handed to each link, what it wants connected is
--- asked for, and it closes these links.
+-- which none comes after `/quit`, what it owes is handed to each link that is no WebSocket, what it
+-- wants connected is asked for, and it closes these links.
 pub record MomentAdvances (told : Beside) (a b : Moment) (closed : List Closed)
     (events : List Event) : Type 0 where
   pub means : Means b.core (run (state_of a.core told) events).state
   pub oracle : (run (state_of a.core told) events).state.oracle ≡ told.oracle
   pub stops : EndsAtQuit (state_of a.core told) events
-  pub hands : (link : ℕ) → Delivers (point link a) (point link b)
+  pub hands : (link : ℕ) → socket_on link b.taken ≡ false → Delivers (point link a) (point link b)
       (owed_to link (run (state_of a.core told) events).acts)
   pub sides : OnOneSide a.core b.core (run (state_of a.core told) events).acts
   pub asks : b.asked ≡ a.asked ++ asks_in (run (state_of a.core told) events).acts
@@ -200,33 +270,34 @@ gives (Refused link) = false
 gives ListenFailed = false
 
 abbrev pub GivesNothing : List Happening → Type 0
-GivesNothing happenings = list_any gives happenings ≡ false
+GivesNothing more = list_any gives more ≡ false
 
--- one of these happenings has the last of these events, and after it nothing is read and no client
--- comes
-pub record QuitsWithin (before more : List Happening) (events : List Event) : Type 0 where
-  pub front : List Happening
-  pub happening : Happening
-  pub back : List Happening
-  pub same : more ≡ front ++ happening ∷ back
+-- one of these has the last of these events, and after it nothing is read and no client comes
+pub record QuitsWithin (before more : List Heard) (events : List Event) : Type 0 where
+  pub front : List Heard
+  pub heard : Heard
+  pub back : List Heard
+  pub same : more ≡ front ++ heard ∷ back
   pub within : length (events_from before front) < length events
-  pub silent : GivesNothing back
+  pub silent : GivesNothing (happenings back)
 
--- from one moment to another the core takes the events that more happenings add, as far as they are
--- reached, unless some growth was refused; after the one that ran `/quit` nothing is read
-pub record CoreTakes (a b : Moment) (ran ran' : ℕ) (closed : List Closed) (more : List Happening) :
-    Type 0 where
+-- from one moment to another the core takes the events that what is heard more adds, as far as they
+-- are reached, unless some growth was refused; after the one that ran `/quit` nothing is read
+pub record CoreTakes (history : List Heard) (a b : Moment) (ran ran' : ℕ) (closed : List Closed)
+    (more : List Heard) : Type 0 where
   pub events : List Event
-  pub reaches : ReachesEvents a.core.quits b.core.quits ran ran' (events_from a.taken more) events
+  pub reaches : ReachesEvents a.core.quits b.core.quits ran ran' (events_from history more) events
   pub rises : a.core.starved ≤ b.core.starved
   pub verdicts : Stay a.core.verdicts b.core.verdicts
   pub advances : b.core.starved ≡ a.core.starved → a.core.starved < 2 ^ 64 - 1 → (told : Beside) →
       WereTold a.core told → Agrees told.oracle b.core.verdicts →
       MomentAdvances told a b closed events
-  pub silent : a.core.quits ≡ true → GivesNothing more
+  pub silent : a.core.quits ≡ true → GivesNothing (happenings more)
+  -- a WebSocket link ends as its bytes have it
+  pub ends : EndsEach history more
   pub last : b.core.starved ≡ a.core.starved → a.core.starved < 2 ^ 64 - 1 → (told : Beside) →
       WereTold a.core told → Agrees told.oracle b.core.verdicts → a.core.quits ≡ false →
-      b.core.quits ≡ true → QuitsWithin a.taken more events
+      b.core.quits ≡ true → QuitsWithin history more events
 
 -- between two moments this happened
 pub record HasGained (before after : Seen) (happening : Happening) : Type 0 where
@@ -234,10 +305,17 @@ pub record HasGained (before after : Seen) (happening : Happening) : Type 0 wher
   pub rest : List Happening
   pub taken : after.taken ≡ before.taken ++ (front ++ happening ∷ rest)
 
--- a link is closed for a cause only where what happened between two moments has it
+-- bytes came on a WebSocket link between two moments
+pub record GainsFrames (link : ℕ) (before after : Seen) : Type 0 where
+  pub bytes : List ℕ
+  pub gained : HasGained before after (Read (record { 0 = link }) bytes)
+  pub socket : socket_on link after.taken ≡ true
+
+-- A link is closed for a cause only where what happened between two moments has it. A WebSocket link
+-- ends also by what came on it.
 abbrev pub CausedBy : Cause → ℕ → Seen → Seen → Type 0
 CausedBy CauseEnded link before after = IsTrue after.tells →
-    HasGained before after (Ended (record { 0 = link }))
+    HasGained before after (Ended (record { 0 = link })) ⊎ GainsFrames link before after
 CausedBy CauseFailed link before after = Rose before.faults.links after.faults.links
     × (IsTrue after.tells → HasGained before after (Failed (record { 0 = link })))
 CausedBy LoginFailed link before after = IsTrue after.tells → (bytes : List ℕ)
@@ -249,6 +327,7 @@ CausedBy CauseQuit link before after = IsTrue after.tells → (bytes : List ℕ)
     × HasGained before after (Read (record { 0 = link }) bytes)
 CausedBy Disconnected link before after = ⊥
 CausedBy NickTaken link before after = ⊥
+CausedBy BadSocket link before after = IsTrue after.tells → socket_on link after.taken ≡ true
 
 abbrev pub IsCaused : Seen → Seen → Closed → Type 0
 IsCaused before after closed = CausedBy closed.cause closed.link.0 before after
@@ -346,6 +425,9 @@ pub record LoopStep (within : Bool) (waits faults : ℕ) (old new : Headless) (b
   pub listens : IsTrue after.tells → listen_faults after.taken ≡ listen_faults before.taken + faults
   pub gained : List Happening
   pub taken : IsTrue after.tells → after.taken ≡ before.taken ++ gained
+  -- what is heard, with what the frames of WebSocket links came to
+  pub heard : List Heard
+  pub spells : happenings heard ≡ gained
   pub rises : old.core.starved ≤ new.core.starved
   pub closed : List Closed
   pub grows : within ≡ true → AgreesWithSockets old before →
@@ -364,8 +446,10 @@ pub record LoopStep (within : Bool) (waits faults : ℕ) (old new : Headless) (b
   pub quits : old.core.quits ≡ true → new.core.quits ≡ true
   pub saves : within ≡ true → AgreesWithSockets old before → KeepsSaved old.core new.core
   pub agrees : AgreesWithSockets old before → AgreesWithSockets new after
-  pub goes : IsTrue after.tells → AgreesWithSockets old before →
-      CoreTakes (moment old before) (moment new after) old.ran new.ran closed gained
+  -- it comes after what was heard before
+  pub adds : (s : AgreesWithSockets old before) → (agrees s).history ≡ s.history ++ heard
+  pub goes : IsTrue after.tells → (s : AgreesWithSockets old before) →
+      CoreTakes s.history (moment old before) (moment new after) old.ran new.ran closed heard
 
 -- how often the listener failed in a turn that ended so; where the keeper failed, it may have failed
 -- before
@@ -379,9 +463,9 @@ pub record TurnStep (end : TurnEnd) (old new : Headless) (before after : Seen) :
   pub fits : FaultsIn end faults
   pub step : LoopStep false (waits_then end) faults old new before after
 
--- One happening is taken, before which `/quit` was not run. Clients and servers may be leaving after
--- it, and connections are to be asked for after those that were.
-pub record TakesHappening (old new : Headless) (happening : Happening) : Type 0 where
+-- One thing is heard, before which `/quit` was not run. Clients and servers may be leaving after it,
+-- and connections are to be asked for after those that were.
+pub record TakesHappening (old new : Headless) (heard : Heard) : Type 0 where
   pub turns : new.turns ≡ old.turns
   pub closed : new.links.closed.items ≡ old.links.closed.items
   pub used : new.used ≡ old.used
@@ -404,24 +488,57 @@ pub record TakesHappening (old new : Headless) (happening : Happening) : Type 0 
       → AgreesWithHappenings old.clock old.links.opened.items old.used old.ran old.refused.items
       old.unlisted taken →
       AgreesWithHappenings new.clock new.links.opened.items new.used new.ran new.refused.items
-      new.unlisted (taken ++ happening ∷ [])
-  pub takes : (taken : List Happening) → AgreesWithHappenings old.clock old.links.opened.items
-      old.used old.ran old.refused.items old.unlisted taken
-      → MayTake old.core new.core old.ran new.ran (events_of taken happening)
+      new.unlisted (taken ++ happened heard)
+  pub hears : (taken : List Happening) (history : List Heard) → happenings history ≡ taken →
+      ((link : ℕ) → old.used < link → at_key link_number link old.links.opened.items ≡ None) →
+      new.core.quits ≡ false
+      → AgreesWithHeard old.links.opened.items old.used old.ran taken history →
+      AgreesWithHeard new.links.opened.items new.used new.ran (taken ++ happened heard)
+      (history ++ heard ∷ [])
+  pub takes : (taken : List Happening) (history : List Heard) → happenings history ≡ taken →
+      AgreesWithHeard old.links.opened.items old.used old.ran taken history
+      → MayTake old.core new.core old.ran new.ran (events_of history heard)
+  pub ends : (taken : List Happening) (history : List Heard) → happenings history ≡ taken →
+      AgreesWithHeard old.links.opened.items old.used old.ran taken history → EndsFor history heard
+  -- what is kept as a WebSocket was so before, or began as one by now
+  pub sockets : (taken : List Happening) (history : List Heard) → happenings history ≡ taken →
+      AgreesWithHeard old.links.opened.items old.used old.ran taken history → (link : ℕ) →
+      is_socket_at (at_key link_number link new.links.opened.items) ≡ true →
+      socket_on link (taken ++ happened heard) ≡ true
+
+-- what a read of a link gave is taken
+pub record TakesRead (old new : Headless) (link : LinkId) (bytes : List ℕ) : Type 0 where
+  pub heard : Heard
+  pub read : happened heard ≡ Read link bytes ∷ []
+  pub takes : TakesHappening old new heard
+
+-- what is still to be sent on a link: the frames of a WebSocket, or what is owed to who is at it
+abbrev pub left_as : Option (List ℕ) → List ℕ → List ℕ
+left_as None unsent = unsent
+left_as (Some frames) unsent = frames
+
+abbrev pub left_on : ℕ → Headless → List ℕ
+left_on link headless =
+    left_as (frames_of (at_key link_number link headless.links.opened.items))
+    (unsent_on link headless.core)
 
 -- who is leaving is settled: what it is owed is sent, or there is no room for it, or its link failed
-abbrev pub IsSettled : ℕ → CoreView → Seen → Type 0
-IsSettled link core seen = IsTrue seen.tells → seen.blocked link ≡ false →
-    has_failed link seen.taken ≡ false → unsent_on link core ≡ []
+abbrev pub IsSettled : ℕ → Headless → Seen → Type 0
+IsSettled link headless seen = IsTrue seen.tells → seen.blocked link ≡ false →
+    has_failed link seen.taken ≡ false → left_on link headless ≡ []
 
 -- the links that a turn closed are, in order, those that the core closes at the events that the
 -- turn added, unless some growth was refused
 pub record ClosesExactly (old new : Headless) (before after : Seen) : Type 0 where
-  pub gained : List Happening
-  pub taken : IsTrue after.tells → after.taken ≡ before.taken ++ gained
+  pub history : List Heard
+  pub spells : IsTrue before.tells → happenings history ≡ before.taken
+  pub heard : List Heard
+  pub taken : IsTrue after.tells → after.taken ≡ before.taken ++ happenings heard
+  -- a WebSocket link ends as its bytes have it
+  pub ends : IsTrue after.tells → EndsEach history heard
   pub events : List Event
   pub reaches : IsTrue after.tells → ReachesEvents old.core.quits new.core.quits old.ran new.ran
-      (events_from before.taken gained) events
+      (events_from history heard) events
   pub closed : IsTrue after.tells → new.core.starved ≡ old.core.starved →
       old.core.starved < 2 ^ 64 - 1 → (told : Beside) → WereTold old.core told →
       Agrees told.oracle new.core.verdicts → new.links.closed.items ≡ closings (run (state_of old.core told) events).acts

@@ -26,6 +26,7 @@ impl Headless {
     ghost use Rattle.wc_board.specs.Served.{StaysOrStarves};
     ghost use Rattle.wc_core.specs.Served.{Distinct, links_of, KeepsClients};
     ghost use Rattle.wc_outside.specs.declared.happening.Happening.TheVariants.{Connected};
+    ghost use Rattle.wc_turns.specs.Heard.{Happened};
     ghost use Rattle.wc_turns.specs.Turns.{TakesHappening};
     ghost use Rattle.wc_turns.specs.Steps.{TakesWanted, TakesRecord, DropsServer, LosesRefused};
 
@@ -81,7 +82,7 @@ impl Headless {
     fn link_stands(&mut self, link: LinkId)
         requires going { self.old.core.quits ≡ false }
         requires connecting { IsConnecting link.0 self.old.links.opened.items }
-        ensures takes { TakesHappening self.old self.new (Connected link) }
+        ensures takes { TakesHappening self.old self.new (Happened (Connected link)) }
         ensures stands { IsStanding link.0 self.new.links.opened.items }
         ensures links { Distinct (links_of self.old.core) → (other : ℕ) →
             StaysOrStarves (leaving_on other self.old.core.connections)

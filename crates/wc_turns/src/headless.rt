@@ -1,9 +1,9 @@
 ghost use Rattle.std.specs.Prelude.{◌≡◌, ◌≢◌, ◌⊎◌, ◌+◌, ◌-◌, ◌^◌, ◌<◌, ◌≤◌};
-ghost use Rattle.std.specs.Prelude.{◌∷◌, [], None, Some, false, IfOk, length, map, min, take};
+ghost use Rattle.std.specs.Prelude.{◌∷◌, [], None, Some, true, false, IfOk, length, map, min, take};
 ghost use Rattle.std.specs.Prelude.{string_bytes};
 ghost use Rattle.std.specs.Option.{option_copied};
-ghost use Rattle.wc_outside.specs.declared.happening.Happening.TheVariants.{Woke, Read, Ended, Failed};
-ghost use Rattle.wc_outside.specs.Keyed.{IsKeyPlace};
+ghost use Rattle.wc_outside.specs.declared.happening.Happening.TheVariants.{Woke, Ended, Failed};
+ghost use Rattle.wc_outside.specs.Keyed.{at_key, IsKeyPlace};
 ghost use Rattle.wc_core.specs.Limits.{most_lines};
 ghost use Rattle.wc_core.specs.State.{first_state};
 ghost use Rattle.wc_eval.specs.Verdicts.{Oracle};
@@ -13,11 +13,11 @@ ghost use Rattle.wc_core.specs.Served.{Means};
 ghost use Rattle.wc_turns.specs.Events.{is_tick, wake_events, clock_from};
 ghost use Rattle.wc_turns.specs.Parties.{has_party};
 ghost use Rattle.wc_turns.specs.Links.{link_number, IsStanding};
-ghost use Rattle.wc_turns.specs.Served.{LeavesAtLine, MayRun};
+ghost use Rattle.wc_turns.specs.Served.{MayRun};
 ghost use Rattle.wc_turns.specs.Steps.{LosesLink, WakesParties};
 
-use crate::feed::feed;
 use crate::links::{Closed, LinkState, Links};
+use crate::sockets::serve_bytes;
 use std::alloc::Global;
 use wc_core::Core;
 use wc_options::Options;
@@ -54,7 +54,10 @@ fn is_tick(last: u64, moment: u64) -> bool
 
 impl Headless {
     ghost use Rattle.wc_turns.specs.Contained.{HasStarved};
-    ghost use Rattle.wc_turns.specs.Turns.{TakesHappening};
+    ghost use Rattle.wc_turns.specs.Heard.{Happened, NotPut};
+    ghost use Rattle.wc_turns.specs.Links.{is_socket_at};
+    ghost use Rattle.wc_turns.specs.Served.{LeavesAtRead};
+    ghost use Rattle.wc_turns.specs.Turns.{TakesHappening, TakesRead};
     ghost use Rattle.wc_turns.specs.Steps.{LinkComes, ServesArrival, MarksLink, ReportsSources};
     ghost use Rattle.wc_turns.specs.Steps.{BeginsTurn, reached_after_miss};
 
@@ -97,14 +100,16 @@ impl Headless {
         requires place { IsKeyPlace link_number link.0 self.old.links.opened.items place }
         requires going { self.old.core.quits ≡ false }
         requires stands { IsStanding link.0 self.old.links.opened.items }
-        ensures takes { TakesHappening self.old self.new (Read link bytes.now) }
-        ensures causes { LeavesAtLine link.0 self.old.core self.new.core }
+        ensures takes { TakesRead self.old self.new link bytes.now }
+        ensures causes { LeavesAtRead
+            (is_socket_at (at_key link_number link.0 self.new.links.opened.items)) link.0
+            self.old.core self.new.core }
         ensures stands { IsStanding link.0 self.new.links.opened.items }
     {
-        feed(
+        serve_bytes(
+            self.alloc,
             &mut self.core,
-            link,
-            &mut self.links.opened[place].tail,
+            &mut self.links.opened[place],
             bytes,
             &mut self.ran,
         );
@@ -114,8 +119,13 @@ impl Headless {
     pub(crate) fn link_gone(&mut self, link: LinkId, cause: Cause)
         requires going { self.old.core.quits ≡ false }
         requires cause { cause ≢ Cause.NoMemory }
-        ensures ended { cause ≡ Cause.Ended → TakesHappening self.old self.new (Ended link) }
-        ensures failed { cause ≡ Cause.Failed → TakesHappening self.old self.new (Failed link) }
+        ensures ended { cause ≡ Cause.Ended →
+            TakesHappening self.old self.new (Happened (Ended link)) }
+        ensures failed { cause ≡ Cause.Failed →
+            TakesHappening self.old self.new (Happened (Failed link)) }
+        ensures broken { cause ≡ Cause.BadSocket →
+            is_socket_at (at_key link_number link.0 self.old.links.opened.items) ≡ true →
+            TakesHappening self.old self.new (NotPut link) }
         ensures core { LosesLink link.0 cause self.old.core self.new.core }
         ensures rest { self.new ≡ record self.old { core = self.new.core; ran = self.new.ran } }
         ensures ran { self.new.ran ≡ min (self.old.ran + 1) (2 ^ 64 - 1) }

@@ -8,6 +8,7 @@ mod headless;
 mod line_buffer;
 mod links;
 mod serve;
+mod sockets;
 mod tail;
 mod turn;
 mod turns;

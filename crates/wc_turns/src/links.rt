@@ -1,9 +1,12 @@
 ghost use Rattle.std.specs.Prelude.{◌≡◌, ◌+◌, ◌≤◌, ◌++◌, ◌∷◌, [], ◌==◌, OnOk, OnErr};
-ghost use Rattle.std.specs.Prelude.{IfOk, position, vec_len, vec_capacity};
+ghost use Rattle.std.specs.Prelude.{IfOk, IfSome, length, position, vec_len, vec_capacity};
+ghost use Rattle.std.specs.Option.{option_copied};
+ghost use Rattle.wc_turns.specs.Framed.{first_framing};
 ghost use Rattle.wc_outside.specs.Keyed.{at_key, without, PlaceOf};
 
 use crate::tail::Tail;
 use std::alloc::Global;
+use wc_framing::Framing;
 use wc_text::{Cause, LinkId, NoMemory, Text};
 
 /// A link that is open, or a connection that is to be one.
@@ -17,6 +20,10 @@ pub struct LinkState {
     /// Whether that was refused as it was asked for: the sockets have no such link.
     pub(crate) refused: bool,
     pub(crate) tail: Tail,
+    /// How its bytes are framed.
+    pub(crate) framing: Framing,
+    /// Whether it is a WebSocket of which nothing is read any more, since it is to be closed.
+    pub(crate) ended: bool,
     /// Whether it was reported ready and is not drained.
     pub(crate) undrained: bool,
     /// Whether its last write found no room and no wait reported it since.
@@ -48,10 +55,21 @@ fn position_of(opened: &[LinkState], link: LinkId) -> Option<usize>
     opened.iter().position(|state| state.link == link)
 }
 
+/// The framing of a link that is new: that of a server's is plain.
+fn first_framing(of_server: bool) -> Framing
+    ensures { result ≡ first_framing of_server }
+{
+    if of_server {
+        return Framing::Plain;
+    }
+    Framing::Undecided
+}
+
 impl Links {
     ghost use Rattle.wc_turns.specs.Links.{link_number, is_blocked, new_state, with_closed};
     ghost use Rattle.wc_turns.specs.Links.{changed_at, reported_state, drained_state};
     ghost use Rattle.wc_turns.specs.Links.{written_link, is_connecting, standing_state};
+    ghost use Rattle.wc_turns.specs.Links.{frames_of, gone_frames};
 
     /// No link, with room for the first ones.
     pub fn new(alloc: Global) -> Result<Links, NoMemory>
@@ -88,12 +106,15 @@ impl Links {
         self.opened.reserve(1)?;
         self.closed.reserve(self.opened.len() + 1)?;
         let connecting = server.is_some();
+        let framing = first_framing(connecting);
         self.opened.push_reserved(LinkState {
             link,
             server,
             connecting,
             refused,
             tail,
+            framing,
+            ended: false,
             undrained: false,
             blocked: false,
         });
@@ -131,6 +152,34 @@ impl Links {
         match self.place(link) {
             Some(place) => self.opened[place].connecting,
             None => false,
+        }
+    }
+
+    /// The unsent frames of a WebSocket link.
+    pub fn frames(&self, link: LinkId) -> Option<&[u8]>
+        ensures { option_copied result
+            ≡ frames_of (at_key link_number link.0 self.now.opened.items) }
+    {
+        let place = self.place(link)?;
+        match &self.opened[place].framing {
+            Framing::Socket(socket) => Some(socket.unsent()),
+            Framing::Undecided | Framing::Plain => None,
+        }
+    }
+
+    /// Takes the first unsent bytes of a WebSocket link's frames away.
+    pub fn frames_gone(&mut self, link: LinkId, count: usize)
+        requires { IfSome (frames_of (at_key link_number link.0 self.old.opened.items))
+            (λ frames. count ≤ length frames) }
+        ensures opened { self.new.opened.items ≡ changed_at link.0 (gone_frames count)
+            self.old.opened.items (at_key link_number link.0 self.old.opened.items) }
+        ensures closed { self.new.closed ≡ self.old.closed }
+    {
+        let Some(place) = self.place(link) else {
+            return;
+        };
+        if let Framing::Socket(socket) = &mut self.opened[place].framing {
+            socket.gone(count);
         }
     }
 

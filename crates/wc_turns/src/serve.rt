@@ -12,8 +12,8 @@ ghost use Rattle.wc_servers.specs.Seats.{seat_link};
 ghost use Rattle.wc_turns.specs.Sources.{NothingBecameReady, IsServed, IsHeard, IsWritten};
 ghost use Rattle.wc_turns.specs.Sources.{AllServed, AllSent, ServesNamed, ServesSources, TakesWithin};
 ghost use Rattle.wc_turns.specs.Sources.{TakesNothing, bytes_taken, arrivals, has_flag, may_write};
-ghost use Rattle.wc_turns.specs.Sources.{may_write_seat, may_write_on};
-ghost use Rattle.wc_turns.specs.Sources.{is_left_over};
+ghost use Rattle.wc_turns.specs.Sources.{may_write_seat, may_write_party, may_write_frames};
+ghost use Rattle.wc_turns.specs.Sources.{may_write_on, is_left_over};
 ghost use Rattle.wc_turns.specs.Turns.{LoopStep, AgreesWithSockets, faults_of};
 
 use crate::connect::stand_link;
@@ -21,6 +21,7 @@ use crate::headless::Headless;
 use crate::links::{LinkState, Links};
 use crate::turns::{accept_all, read_link, send_link, write_link};
 use wc_core::{Connection, Core};
+use wc_framing::Framing;
 use wc_outside::{Failed, Ready, Sockets, Token};
 use wc_servers::Seat;
 use wc_text::LinkId;
@@ -103,6 +104,34 @@ fn next_seat(seats: &[Seat], links: &Links, last: u64) -> Option<LinkId>
     next
 }
 
+/// Whether a WebSocket link has unsent frames, and is not known to have no room for them.
+fn may_write_frames(state: &LinkState) -> bool
+    ensures { result ≡ may_write_frames state.now }
+{
+    match &state.framing {
+        Framing::Socket(socket) => !state.blocked && !socket.unsent().is_empty(),
+        Framing::Undecided | Framing::Plain => false,
+    }
+}
+
+/// The WebSocket link with the least number above the last one that has unsent frames and is not
+/// blocked.
+fn next_framed(states: &[LinkState], last: u64) -> Option<LinkId>
+    ensures above { IfSome result (λ link. last < link.0) }
+    ensures between { IfSome result (λ link. (other : ℕ) → last < other → other < link.0 →
+        has_flag may_write_frames (at_key link_number other states.now) ≡ false) }
+    ensures none { result ≡ None → (other : ℕ) → last < other →
+        has_flag may_write_frames (at_key link_number other states.now) ≡ false }
+{
+    let mut next = None;
+    for state in states {
+        if may_write_frames(state) {
+            next = lesser(next, state.link, last);
+        }
+    }
+    next
+}
+
 /// The lesser one of two links.
 fn lesser_of(a: Option<LinkId>, b: Option<LinkId>) -> Option<LinkId>
     ensures one { (result ≡ a) ⊎ (result ≡ b) }
@@ -117,6 +146,20 @@ fn lesser_of(a: Option<LinkId>, b: Option<LinkId>) -> Option<LinkId>
     }
 }
 
+/// The link of a client or a server with the least number above the last one that has unsent bytes
+/// and is not blocked.
+fn next_party(core: &Core, links: &Links, last: u64) -> Option<LinkId>
+    ensures above { IfSome result (λ link. last < link.0) }
+    ensures between { IfSome result (λ link. (other : ℕ) → last < other → other < link.0 →
+        may_write_party other links.now.opened.items core.now ≡ false) }
+    ensures none { result ≡ None → (other : ℕ) → last < other →
+        may_write_party other links.now.opened.items core.now ≡ false }
+{
+    let client = next_client(core.connections(), links, last);
+    let server = next_seat(core.servers().seats(), links, last);
+    lesser_of(client, server)
+}
+
 /// The link with the least number above the last one that has unsent bytes and is not blocked.
 fn next_unsent(core: &Core, links: &Links, last: u64) -> Option<LinkId>
     ensures above { IfSome result (λ link. last < link.0) }
@@ -125,9 +168,9 @@ fn next_unsent(core: &Core, links: &Links, last: u64) -> Option<LinkId>
     ensures none { result ≡ None → (other : ℕ) → last < other →
         may_write_on other links.now.opened.items core.now ≡ false }
 {
-    let client = next_client(core.connections(), links, last);
-    let server = next_seat(core.servers().seats(), links, last);
-    lesser_of(client, server)
+    let party = next_party(core, links, last);
+    let framed = next_framed(links.opened.as_slice(), last);
+    lesser_of(party, framed)
 }
 
 /// Whether tokens name a link.
@@ -183,7 +226,7 @@ fn write_all<S: Sockets>(headless: &mut Headless, sockets: &mut S)
     ensures going { headless.new.core.quits ≡ false }
     ensures falls { NothingBecameReady (S.seen sockets.old) (S.seen sockets.new) }
     ensures written { AgreesWithSockets headless.old (S.seen sockets.old) → (link : ℕ) → 1 ≤ link →
-        IsWritten link headless.new.core (S.seen sockets.new) }
+        IsWritten link headless.new (S.seen sockets.new) }
     ensures nothing { TakesNothing (S.seen sockets.old) (S.seen sockets.new) }
 {
     let mut last = 0;
@@ -208,7 +251,7 @@ fn send_all<S: Sockets>(headless: &mut Headless, sockets: &mut S)
     ensures contained { KeepsLinks headless.old headless.new }
     ensures quits { headless.new.core.quits ≡ headless.old.core.quits }
     ensures sent { AgreesWithSockets headless.old (S.seen sockets.old) →
-        AllSent headless.new.core (S.seen sockets.old) (S.seen sockets.new) }
+        AllSent headless.new (S.seen sockets.old) (S.seen sockets.new) }
     ensures nothing { TakesNothing (S.seen sockets.old) (S.seen sockets.new) }
 {
     let mut last = 0;
@@ -407,9 +450,9 @@ fn write_unsent<S: Sockets>(headless: &mut Headless, sockets: &mut S)
         (S.seen sockets.new) }
     ensures written { AgreesWithSockets headless.old (S.seen sockets.old) →
         headless.new.core.quits ≡ false → (link : ℕ) → 1 ≤ link →
-        IsWritten link headless.new.core (S.seen sockets.new) }
+        IsWritten link headless.new (S.seen sockets.new) }
     ensures sent { AgreesWithSockets headless.old (S.seen sockets.old) → headless.new.core.quits
-        ≡ true → AllSent headless.new.core (S.seen sockets.old) (S.seen sockets.new) }
+        ≡ true → AllSent headless.new (S.seen sockets.old) (S.seen sockets.new) }
     ensures nothing { TakesNothing (S.seen sockets.old) (S.seen sockets.new) }
 {
     if headless.core.quits() {
@@ -433,10 +476,10 @@ pub fn serve_ready<S: Sockets>(
     ensures contained { AgreesWithSockets headless.old (S.seen sockets.old) →
         KeepsLinks headless.old headless.new }
     ensures served { OnOk result (AgreesWithSockets headless.old (S.seen sockets.old) →
-        headless.new.core.quits ≡ false → AllServed headless.new.core
+        headless.new.core.quits ≡ false → AllServed headless.new
         (S.seen sockets.old) (S.seen sockets.new)) }
     ensures sent { AgreesWithSockets headless.old (S.seen sockets.old) → headless.new.core.quits
-        ≡ true → AllSent headless.new.core (S.seen sockets.old) (S.seen sockets.new) }
+        ≡ true → AllSent headless.new (S.seen sockets.old) (S.seen sockets.new) }
     ensures failed { OnErr result (Rose (S.seen sockets.old).faults.listens
         (S.seen sockets.new).faults.listens) }
     ensures within { TakesWithin (S.seen sockets.old) (S.seen sockets.new) }

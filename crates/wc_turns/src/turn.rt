@@ -81,10 +81,10 @@ impl Headless {
         ensures calm { IsCalm self.new.core }
         ensures causes { All (HasCause self.old self.new (S.seen sockets.old)
             (S.seen sockets.new)) self.new.links.closed.items }
-        ensures served { result ≡ TurnEnd.GoOn → AllServed self.new.core
+        ensures served { result ≡ TurnEnd.GoOn → AllServed self.new
             (S.seen sockets.old) (S.seen sockets.new) }
         ensures sent { result ≡ TurnEnd.Quit →
-            AllSent self.new.core (S.seen sockets.old) (S.seen sockets.new) }
+            AllSent self.new (S.seen sockets.old) (S.seen sockets.new) }
         ensures within { TakesWithin (S.seen sockets.old) (S.seen sockets.new) }
         ensures contained { LosesNone self.old self.new }
         ensures closes { ClosesExactly self.old self.new (S.seen sockets.old) (S.seen sockets.new) }
@@ -146,10 +146,10 @@ impl Headless {
         ensures calm { IsCalm self.new.core }
         ensures causes { All (HasCause self.old self.new (S.seen sockets.old)
             (S.seen sockets.new)) self.new.links.closed.items }
-        ensures served { result ≡ TurnEnd.GoOn → AllServed self.new.core
+        ensures served { result ≡ TurnEnd.GoOn → AllServed self.new
             (S.seen sockets.old) (S.seen sockets.new) }
         ensures sent { result ≡ TurnEnd.Quit →
-            AllSent self.new.core (S.seen sockets.old) (S.seen sockets.new) }
+            AllSent self.new (S.seen sockets.old) (S.seen sockets.new) }
         ensures within { TakesWithin (S.seen sockets.old) (S.seen sockets.new) }
         ensures contained { LosesNone self.old self.new }
         ensures closes { ClosesExactly self.old self.new (S.seen sockets.old) (S.seen sockets.new) }

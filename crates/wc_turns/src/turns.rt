@@ -6,10 +6,11 @@ ghost use Rattle.wc_turns.specs.Contained.{KeepsLinks};
 ghost use Rattle.wc_turns.specs.Links.{IsStanding};
 ghost use Rattle.wc_turns.specs.Parts.{FailureIgnored, SendsOn, ClosesLeaving, HasFailed, ReadsOn};
 ghost use Rattle.wc_turns.specs.Parts.{ReadBytes, came_of};
-ghost use Rattle.wc_turns.specs.Parties.{IsCalm, closes_asked, unsent_on, party_count};
+ghost use Rattle.wc_turns.specs.Parties.{IsCalm, closes_asked, party_count};
 ghost use Rattle.wc_turns.specs.Sources.{NothingBecameReady, IsServed, IsHeard, IsWritten, IsSent};
+ghost use Rattle.wc_turns.specs.Sources.{IsPut};
 ghost use Rattle.wc_turns.specs.Sources.{TakesNothing, bytes_taken, arrivals};
-ghost use Rattle.wc_turns.specs.Turns.{LoopStep, AgreesWithSockets, IsSettled, faults_of};
+ghost use Rattle.wc_turns.specs.Turns.{LoopStep, AgreesWithSockets, IsSettled, faults_of, left_on};
 
 use crate::connect::settle;
 use crate::headless::Headless;
@@ -46,11 +47,11 @@ fn send_once<S: Sockets>(headless: &mut Headless, sockets: &mut S, link: LinkId)
     ensures sends { SendsOn link.0 headless.old headless.new (S.seen sockets.old)
         (S.seen sockets.new) }
     ensures done { result ≡ false → AgreesWithSockets headless.new (S.seen sockets.new) →
-        IsSent link.0 headless.new.core (S.seen sockets.old) (S.seen sockets.new) }
-    ensures less { result ≡ true → length (unsent_on link.0 headless.new.core)
-        < length (unsent_on link.0 headless.old.core) }
+        IsSent link.0 headless.new (S.seen sockets.old) (S.seen sockets.new) }
+    ensures less { result ≡ true → length (left_on link.0 headless.new)
+        < length (left_on link.0 headless.old) }
 {
-    let Some(unsent) = headless.core.unsent(link) else {
+    let Some(unsent) = headless.to_send(link) else {
         return false;
     };
     if unsent.is_empty() {
@@ -59,7 +60,7 @@ fn send_once<S: Sockets>(headless: &mut Headless, sockets: &mut S, link: LinkId)
     match sockets.write(link, unsent) {
         Ok(Put::Took(count)) => {
             headless.links.mark_written(link, false);
-            headless.core.gone(link, count);
+            headless.sent(link, count);
             true
         }
         Ok(Put::NotYet) => {
@@ -100,7 +101,7 @@ fn flush_leaving<S: Sockets>(
     ensures sends { SendsOn departure.link.0 headless.old headless.new (S.seen sockets.old)
         (S.seen sockets.new) }
     ensures done { AgreesWithSockets headless.new (S.seen sockets.new) →
-        IsSettled departure.link.0 headless.new.core (S.seen sockets.new) }
+        IsSettled departure.link.0 headless.new (S.seen sockets.new) }
 {
     if is_lost(lost, departure.link) {
         return;
@@ -318,19 +319,21 @@ fn write_once<S: Sockets>(headless: &mut Headless, sockets: &mut S, link: LinkId
     ensures calm { IsCalm headless.new.core }
     ensures going { headless.new.core.quits ≡ false }
     ensures falls { NothingBecameReady (S.seen sockets.old) (S.seen sockets.new) }
-    ensures done { result ≡ Wrote.All → IsWritten link.0 headless.new.core (S.seen sockets.new) }
+    ensures done { result ≡ Wrote.All → IsPut link.0 headless.old →
+        IsWritten link.0 headless.new (S.seen sockets.new) }
+    ensures put { result ≡ Wrote.Some → IsPut link.0 headless.old → IsPut link.0 headless.new }
     ensures others { result ≢ Wrote.Lost → (other : ℕ) → other ≢ link.0 →
-        IsWritten other headless.old.core (S.seen sockets.old) →
-        IsWritten other headless.new.core (S.seen sockets.new) }
-    ensures less { result ≡ Wrote.Some → length (unsent_on link.0 headless.new.core)
-        < length (unsent_on link.0 headless.old.core) }
+        IsWritten other headless.old (S.seen sockets.old) →
+        IsWritten other headless.new (S.seen sockets.new) }
+    ensures less { result ≡ Wrote.Some → length (left_on link.0 headless.new)
+        < length (left_on link.0 headless.old) }
     ensures parties { party_count headless.new.core ≤ party_count headless.old.core }
     ensures lost { result ≡ Wrote.Lost →
         party_count headless.new.core < party_count headless.old.core }
     ensures nothing { TakesNothing (S.seen sockets.old) (S.seen sockets.new) }
     ensures contained { KeepsLinks headless.old headless.new }
 {
-    let Some(unsent) = headless.core.unsent(link) else {
+    let Some(unsent) = headless.to_send(link) else {
         return Wrote::All;
     };
     if unsent.is_empty() {
@@ -339,7 +342,7 @@ fn write_once<S: Sockets>(headless: &mut Headless, sockets: &mut S, link: LinkId
     match sockets.write(link, unsent) {
         Ok(Put::Took(count)) => {
             headless.links.mark_written(link, false);
-            headless.core.gone(link, count);
+            headless.sent(link, count);
             Wrote::Some
         }
         Ok(Put::NotYet) => {
@@ -366,16 +369,20 @@ pub fn write_link<S: Sockets>(headless: &mut Headless, sockets: &mut S, link: Li
     ensures calm { IsCalm headless.new.core }
     ensures going { headless.new.core.quits ≡ false }
     ensures falls { NothingBecameReady (S.seen sockets.old) (S.seen sockets.new) }
-    ensures done { result ≡ false → IsWritten link.0 headless.new.core (S.seen sockets.new) }
+    ensures done { result ≡ false → IsWritten link.0 headless.new (S.seen sockets.new) }
     ensures others { result ≡ false → (other : ℕ) → other ≢ link.0 →
-        IsWritten other headless.old.core (S.seen sockets.old) →
-        IsWritten other headless.new.core (S.seen sockets.new) }
+        IsWritten other headless.old (S.seen sockets.old) →
+        IsWritten other headless.new (S.seen sockets.new) }
     ensures parties { party_count headless.new.core ≤ party_count headless.old.core }
     ensures lost { result ≡ true →
         party_count headless.new.core < party_count headless.old.core }
     ensures nothing { TakesNothing (S.seen sockets.old) (S.seen sockets.new) }
     ensures contained { KeepsLinks headless.old headless.new }
 {
+    if !headless.frame(link) {
+        settle(headless, sockets, None);
+        return true;
+    }
     loop {
         match write_once(headless, sockets, link) {
             Wrote::Some => {}
@@ -394,18 +401,20 @@ pub fn send_link<S: Sockets>(headless: &mut Headless, sockets: &mut S, link: Lin
     ensures sends { SendsOn link.0 headless.old headless.new (S.seen sockets.old)
         (S.seen sockets.new) }
     ensures done { AgreesWithSockets headless.new (S.seen sockets.new) →
-        IsSent link.0 headless.new.core (S.seen sockets.old) (S.seen sockets.new) }
+        IsSent link.0 headless.new (S.seen sockets.old) (S.seen sockets.new) }
     ensures leaving { closes_asked headless.new.core
         ≡ closes_asked headless.old.core }
     ensures quits { headless.new.core.quits ≡ headless.old.core.quits }
     ensures falls { NothingBecameReady (S.seen sockets.old) (S.seen sockets.new) }
-    ensures unsent { (other : ℕ) → other ≢ link.0 → unsent_on other headless.new.core
-        ≡ unsent_on other headless.old.core }
+    ensures unsent { (other : ℕ) → other ≢ link.0 → left_on other headless.new
+        ≡ left_on other headless.old }
     ensures others { (other : ℕ) → other ≢ link.0 → (S.seen sockets.new).blocked other
         ≡ (S.seen sockets.old).blocked other }
     ensures nothing { TakesNothing (S.seen sockets.old) (S.seen sockets.new) }
     ensures contained { KeepsLinks headless.old headless.new }
 {
+    // Who is leaving goes anyway, so a refused message is of no matter.
+    let _refused = headless.frame_unsent(link);
     loop {
         if !send_once(headless, sockets, link) {
             return;

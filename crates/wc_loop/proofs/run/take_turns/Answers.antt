@@ -43,7 +43,7 @@ returns-in_default g c =
       calm = e.calm;
       causes = λ above. record { earlier = c.loop.headless; seen = seen c.loop.sockets; end = c.turn.result; waits = c.loop.counter; until = i.continues; agrees = i.agrees; calm = i.calm; turn = e.continues; causes = e.causes };
       served = λ q. absurd (c.in_default.not-GoOn q);
-      sent = λ q. AllSent-following c.turn.new.self.core (seen c.args.sockets.now) (seen c.loop.sockets) (seen c.turn.new.sockets) (later-of _ _ i.continues) (later-of _ _ e.continues.step) i.continues.counts (e.sent q);
+      sent = λ q. AllSent-following c.turn.new.self (seen c.args.sockets.now) (seen c.loop.sockets) (seen c.turn.new.sockets) (later-of _ _ i.continues) (later-of _ _ e.continues.step) i.continues.counts (e.sent q);
       quit = e.quit;
       going = λ quit listen keeper. unwoken-by c.turn.result _ c.in_default.not-GoOn quit listen keeper e.unwoken;
       all = λ q. absurd (c.in_default.not-GoOn q);
@@ -92,7 +92,7 @@ loop-preserved g c =
       calm = e.calm;
       going = e.goes_on refl;
       causes = λ above. record { earlier = c.loop.headless; seen = seen c.loop.sockets; end = GoOn; waits = c.loop.counter; until = i.continues; agrees = i.agrees; calm = i.calm; turn = e.continues; causes = e.causes };
-      served = λ one. AllServed-following c.turn.new.self.core (seen c.args.sockets.now) (seen c.loop.sockets) (seen c.turn.new.sockets) (later-of _ _ i.continues) (later-of _ _ e.continues.step) (e.served refl);
+      served = λ one. AllServed-following c.turn.new.self (seen c.args.sockets.now) (seen c.loop.sockets) (seen c.turn.new.sockets) (later-of _ _ i.continues) (later-of _ _ e.continues.step) (e.served refl);
       written = e.written (λ q. cc);
       saves = λ first had. e.saves (λ q. cc) first (i.saves first had);
       unsaved = λ none. absurd (omega arith);

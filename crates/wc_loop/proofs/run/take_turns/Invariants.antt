@@ -13,7 +13,7 @@ invariant-loop g l = record {
   calm : IsCalm l.headless.core;
   going : l.headless.core.quits ≡ false;
   causes : 1 ≤ l.headless.turns → LastTurn l.fn.headless l.headless (g.S.Sockets.seen l.fn.sockets) (g.S.Sockets.seen l.sockets);
-  served : 1 ≤ l.counter → AllServed l.headless.core (g.S.Sockets.seen l.fn.sockets) (g.S.Sockets.seen l.sockets);
+  served : 1 ≤ l.counter → AllServed l.headless (g.S.Sockets.seen l.fn.sockets) (g.S.Sockets.seen l.sockets);
   written : l.headless.core.unwritten ≡ false;
   saves : SavesTurn l.fn.headless.core l.headless.core (g.K.Keeper.contents l.fn.keeper) (g.K.Keeper.contents l.keeper);
   unsaved : l.headless.turns ≡ 0 → l.headless.core.saved ≡ None;

@@ -1,3 +1,5 @@
+use Rattle.wc_turns.specs.Heard.{Happened}
+use Rattle.wc_turns.proofs.AskedLemmas.{hears-begun, hears-refused}
 use Rattle.wc_turns.proofs.connect.connect_next.Goals as goal
 use Rattle.std.proofs.Common.{subst, true, sym, refl, ap, None, ℕ, not, eqb, ◌&&◌, ◌||◌, ◌≡◌, ◌∙◌, ◌∷◌, ◌+◌, [], arith, Bool, false}
 use Rattle.wc_core.specs.CoreView.{CoreView}
@@ -50,14 +52,15 @@ returns-then-link_begun-clause-continues g c =
     let d = c.close.ensures in
     let z = g.S.Sockets.seen c.close.new.self in
     let absent : (k : ℕ) → k ≡ c.in-Ok.link.0 → at_key link_number k x.links.opened.items ≡ None = λ k q. s.among.unknown k (omega arith) in
-    LoopStep-dropped false [] x x' c.link_begun.new.self a z w others first same c.if-link_begun.ensures s
-    (record { told = λ t. e.told (d.told t); taken = λ t. d.taken t ∙ e.taken (d.told t); asked = λ t. d.asked t ∙ e.asked (d.told t); counts = NeverFall-trans _ _ _ e.counts d.counts }) refl refl refl refl
+    LoopStep-dropped false [] [] x x' c.link_begun.new.self a z w others first same c.if-link_begun.ensures s
+    (record { told = λ t. e.told (d.told t); taken = λ t. d.taken t ∙ e.taken (d.told t); asked = λ t. d.asked t ∙ e.asked (d.told t); counts = NeverFall-trans _ _ _ e.counts d.counts }) refl refl refl refl (λ history. refl) (λ history. tt)
     (d.used ∙ e.used)
     (λ k h. d.there k ∙ ap (λ t. t && not (eqb k c.in-Ok.link.0)) (e.there k) ∙ shut-flag k c.in-Ok.link.0 _ _ (λ q. ap is_there (absent k q)) h)
     (λ k h. d.undrained k ∙ kept-flag k c.in-Ok.link.0 _ _ (λ q. ap is_undrained (absent k q)) (e.undrained k ∙ h))
     (λ k h. d.blocked k ∙ kept-flag k c.in-Ok.link.0 _ _ (λ q. ap is_blocked (absent k q)) (e.blocked k ∙ h))
     (d.listening ∙ e.listening)
     (λ t h. told-begun x x' c.link_begun.new.self a.taken w c.if-link_begun.ensures refl refl refl next (wanted-begun x a w others first s) (connect-low x a w others first s) h)
+    (λ history spells h. hears-begun x x' c.link_begun.new.self a.taken history w c.if-link_begun.ensures next h)
 
 pub returns-then-link_begun-clause-asks : goal.returns-then-link_begun-clause-asks
 returns-then-link_begun-clause-asks g c =
@@ -131,10 +134,11 @@ returns-in-Err-clause-continues g c = refused-by c.link_refused.result c.link_re
         let next : w.link.0 ≡ x.used + 1 = wanted-next x a w others first s in
         let e = c.in-Err.ensures in
         let here = refused-link a.used w.link (next ∙ ap (λ n. n + 1) s.among.counted) in
-        LoopStep-dropped true (Refused w.link ∷ []) x x' c.link_refused.new.self a b w others first same drops s
-        (record { told = e.told; taken = λ t. e.taken t ∙ here a.taken; asked = e.asked; counts = e.counts }) refl refl refl refl
+        LoopStep-dropped true (Refused w.link ∷ []) (Happened (Refused w.link) ∷ []) x x' c.link_refused.new.self a b w others first same drops s
+        (record { told = e.told; taken = λ t. e.taken t ∙ here a.taken; asked = e.asked; counts = e.counts }) refl refl refl refl (λ history. refl) (λ history. (tt, tt))
         e.used (λ k h. e.there k ∙ or-false _ ∙ h) (λ k h. e.undrained k ∙ h) (λ k h. e.blocked k ∙ h) e.listening
         (λ t h. told-refused x x' c.link_refused.new.self a.taken w drops refl refl refl next (wanted-begun x a w others first s) (connect-low x a w others first s) h)
+        (λ history spells h. hears-refused x x' c.link_refused.new.self a.taken history w drops next spells h)
     refused-by false takes =
         let x = c.args.headless.now in
         let x' = record x { core = c.take_wanted.new.self } in

@@ -22,7 +22,7 @@ loop-link-preserved g c =
       calm = record { parted = e.leaving ∙ i.calm.parted; asked = e.sends.wanted ∙ i.calm.asked };
       contained = KeepsLinks-trans c.args.headless.now c.loop-link.headless c.send_link.new.headless i.contained e.contained;
       quits = e.quits ∙ i.quits;
-      sent = λ s k one most. sent-next c.loop-link.headless.links.opened.items k c.loop-link.last c.in-Some.link.0 c.loop-link.headless.core c.send_link.new.headless.core (seen c.args.sockets.now) (seen c.loop-link.sockets) (seen c.send_link.new.sockets)
+      sent = λ s k one most. sent-next k c.loop-link.last c.in-Some.link.0 c.loop-link.headless c.send_link.new.headless (seen c.args.sockets.now) (seen c.loop-link.sockets) (seen c.send_link.new.sockets)
           (blocked-kept c.loop-link.headless k (seen c.loop-link.sockets) (i.continues.agrees s)) (later-of _ _ i.continues) (later-of _ _ e.continues) i.continues.counts e.continues.counts (i.sent s k one) (λ p q. c.in-Some.ensures.between k p q) (λ n. (e.unsent k n, e.others k n)) (e.done (e.continues.agrees (i.continues.agrees s))) most;
       nothing = TakesNothing-trans _ (seen c.loop-link.sockets) _ e.continues.told i.nothing e.nothing;
     }
@@ -31,4 +31,4 @@ pub returns-clause-sent : goal.returns-clause-sent
 returns-clause-sent g c = λ s k one.
     let i = c.loop-link.invariant in
     let seen = g.S.Sockets.seen in
-    sent-rest c.loop-link.headless.links.opened.items k c.loop-link.last c.loop-link.headless.core (seen c.args.sockets.now) (seen c.loop-link.sockets) (blocked-kept c.loop-link.headless k (seen c.loop-link.sockets) (i.continues.agrees s)) (i.sent s k one) (λ above. c.next_unsent.ensures.none c.in_default.is k above)
+    sent-rest k c.loop-link.last c.loop-link.headless (seen c.args.sockets.now) (seen c.loop-link.sockets) (blocked-kept c.loop-link.headless k (seen c.loop-link.sockets) (i.continues.agrees s)) (i.sent s k one) (λ above. c.next_unsent.ensures.none c.in_default.is k above)

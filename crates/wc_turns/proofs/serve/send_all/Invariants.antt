@@ -11,7 +11,7 @@ invariant-loop-link g l = record {
   calm : IsCalm l.headless.core;
   contained : KeepsLinks l.fn.headless l.headless;
   quits : l.headless.core.quits ≡ true;
-  sent : AgreesWithSockets l.fn.headless (g.S.Sockets.seen l.fn.sockets) → (link : ℕ) → 1 ≤ link → link ≤ l.last → IsSent link l.headless.core (g.S.Sockets.seen l.fn.sockets) (g.S.Sockets.seen l.sockets);
+  sent : AgreesWithSockets l.fn.headless (g.S.Sockets.seen l.fn.sockets) → (link : ℕ) → 1 ≤ link → link ≤ l.last → IsSent link l.headless (g.S.Sockets.seen l.fn.sockets) (g.S.Sockets.seen l.sockets);
   nothing : TakesNothing (g.S.Sockets.seen l.fn.sockets) (g.S.Sockets.seen l.sockets);
 }
 

@@ -26,7 +26,7 @@ returns-clause-served g c =
 pub returns-clause-sent : goal.returns-clause-sent
 returns-clause-sent g c = λ agrees over.
     let seen = g.S.Sockets.seen in
-    AllSent-following c.write_unsent.new.headless.core (seen c.args.sockets.now) (seen c.serve_unless_quit-listened.new.sockets) (seen c.write_unsent.new.sockets) (later-of _ _ c.serve_unless_quit-listened.ensures.continues) (later-of _ _ c.write_unsent.ensures.continues) c.serve_unless_quit-listened.ensures.continues.counts (c.write_unsent.ensures.sent (c.serve_unless_quit-listened.ensures.continues.agrees agrees) over)
+    AllSent-following c.write_unsent.new.headless (seen c.args.sockets.now) (seen c.serve_unless_quit-listened.new.sockets) (seen c.write_unsent.new.sockets) (later-of _ _ c.serve_unless_quit-listened.ensures.continues) (later-of _ _ c.write_unsent.ensures.continues) c.serve_unless_quit-listened.ensures.continues.counts (c.write_unsent.ensures.sent (c.serve_unless_quit-listened.ensures.continues.agrees agrees) over)
 
 pub returns-clause-contained : goal.returns-clause-contained
 returns-clause-contained g c = λ agrees. KeepsLinks-trans c.args.headless.now c.serve_unless_quit-listened.new.headless c.write_unsent.new.headless (c.serve_unless_quit-listened.ensures.contained agrees) c.write_unsent.ensures.contained

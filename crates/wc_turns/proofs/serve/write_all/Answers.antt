@@ -38,11 +38,11 @@ loop-link-preserved g c =
       contained = KeepsLinks-trans c.args.headless.now c.loop-link.headless c.write_link.new.headless i.contained e.contained;
       going = e.going;
       falls = NothingBecameReady-trans _ (seen c.loop-link.sockets) _ i.falls e.falls;
-      written = λ s k one most. written-next c.loop-link.headless.links.opened.items k c.loop-link.last c.in-Some.link.0 c.loop-link.headless.core c.write_link.new.headless.core (seen c.loop-link.sockets) (seen c.write_link.new.sockets) (blocked-kept c.loop-link.headless k (seen c.loop-link.sockets) (i.continues.agrees s)) (i.written s k one) (λ p q. c.in-Some.ensures.between k p q) (λ n. e.others c.if-write_link.false k n) (e.done c.if-write_link.false) most;
+      written = λ s k one most. written-next k c.loop-link.last c.in-Some.link.0 c.loop-link.headless c.write_link.new.headless (seen c.loop-link.sockets) (seen c.write_link.new.sockets) (blocked-kept c.loop-link.headless k (seen c.loop-link.sockets) (i.continues.agrees s)) (i.written s k one) (λ p q. c.in-Some.ensures.between k p q) (λ n. e.others c.if-write_link.false k n) (e.done c.if-write_link.false) most;
       nothing = TakesNothing-trans _ (seen c.loop-link.sockets) _ e.continues.told i.nothing e.nothing;
     }
 
 pub returns-clause-written : goal.returns-clause-written
 returns-clause-written g c = λ s k one.
     let i = c.loop-link.invariant in
-    written-rest c.loop-link.headless.links.opened.items k c.loop-link.last c.loop-link.headless.core (g.S.Sockets.seen c.loop-link.sockets) (blocked-kept c.loop-link.headless k (g.S.Sockets.seen c.loop-link.sockets) (i.continues.agrees s)) (i.written s k one) (λ above. c.next_unsent.ensures.none c.in_default.is k above)
+    written-rest k c.loop-link.last c.loop-link.headless (g.S.Sockets.seen c.loop-link.sockets) (blocked-kept c.loop-link.headless k (g.S.Sockets.seen c.loop-link.sockets) (i.continues.agrees s)) (i.written s k one) (λ above. c.next_unsent.ensures.none c.in_default.is k above)

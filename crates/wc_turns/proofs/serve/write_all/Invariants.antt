@@ -12,7 +12,7 @@ invariant-loop-link g l = record {
   contained : KeepsLinks l.fn.headless l.headless;
   going : l.headless.core.quits ≡ false;
   falls : NothingBecameReady (g.S.Sockets.seen l.fn.sockets) (g.S.Sockets.seen l.sockets);
-  written : AgreesWithSockets l.fn.headless (g.S.Sockets.seen l.fn.sockets) → (link : ℕ) → 1 ≤ link → link ≤ l.last → IsWritten link l.headless.core (g.S.Sockets.seen l.sockets);
+  written : AgreesWithSockets l.fn.headless (g.S.Sockets.seen l.fn.sockets) → (link : ℕ) → 1 ≤ link → link ≤ l.last → IsWritten link l.headless (g.S.Sockets.seen l.sockets);
   nothing : TakesNothing (g.S.Sockets.seen l.fn.sockets) (g.S.Sockets.seen l.sockets);
 }
 

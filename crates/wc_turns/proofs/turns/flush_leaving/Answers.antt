@@ -10,7 +10,7 @@ pub send_link-requires : goal.send_link-requires
 send_link-requires g c = record { missed = FailureIgnored-departed c.args.headless.now.core c.args.departure c.requires.first }
 
 pub returns-then-is_lost-clause-done : goal.returns-then-is_lost-clause-done
-returns-then-is_lost-clause-done g c = λ s. IsSettled-failed c.args.departure.link c.args.lost c.args.headless.now.core _ (c.is_lost.ensures c.if-is_lost.true) c.requires.failed
+returns-then-is_lost-clause-done g c = λ s. IsSettled-failed c.args.departure.link c.args.lost c.args.headless.now _ (c.is_lost.ensures c.if-is_lost.true) c.requires.failed
 
 pub returns-then-is_blocked-clause-continues : goal.returns-then-is_blocked-clause-continues
 returns-then-is_blocked-clause-continues g c = LoopStep-refl _ _
@@ -19,4 +19,4 @@ pub returns-then-is_blocked-clause-done : goal.returns-then-is_blocked-clause-do
 returns-then-is_blocked-clause-done g c = λ s. IsSettled-blocked c.args.departure.link.0 c.args.headless.now _ (sym c.is_blocked.ensures ∙ c.if-is_blocked.true) s
 
 pub returns-clause-done : goal.returns-clause-done
-returns-clause-done g c = λ s. IsSettled-sent c.args.departure.link.0 c.send_link.new.headless.core (g.S.Sockets.seen c.args.sockets.now) (g.S.Sockets.seen c.send_link.new.sockets) (c.send_link.ensures.done s)
+returns-clause-done g c = λ s. IsSettled-sent c.args.departure.link.0 c.send_link.new.headless (g.S.Sockets.seen c.args.sockets.now) (g.S.Sockets.seen c.send_link.new.sockets) (c.send_link.ensures.done s)

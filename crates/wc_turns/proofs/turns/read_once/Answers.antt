@@ -1,5 +1,5 @@
 use Rattle.wc_turns.proofs.turns.read_once.Goals as goal
-use Rattle.std.proofs.Common.{refl, ap, sym, ◌∙◌, [], ◌∷◌, arith, map, is_some, None, false, subst}
+use Rattle.std.proofs.Common.{inl, refl, ap, sym, ◌∙◌, [], ◌∷◌, arith, map, is_some, None, false, subst}
 use Rattle.std.proofs.lemmas.Bool.{false≢true}
 use Rattle.wc_outside.specs.declared.happening.Happening.TheVariants.{Ended, Failed}
 use Rattle.wc_turns.proofs.TurnLemmas.{LoopStep-trans}
@@ -76,13 +76,13 @@ returns-then-quits-clause-within g c = λ t.
 pub returns-then-quits-clause-contained : goal.returns-then-quits-clause-contained
 returns-then-quits-clause-contained g c =
     let l = c.bytes_came.ensures in
-    KeepsLinks-trans c.args.headless.now c.bytes_came.new.self _ (KeepsLinks-takes c.args.headless.now c.bytes_came.new.self _ l.takes l.causes.rises) c.settle.ensures.settles.contained
+    KeepsLinks-trans c.args.headless.now c.bytes_came.new.self _ (KeepsLinks-takes c.args.headless.now c.bytes_came.new.self _ l.takes.takes l.causes.rises) c.settle.ensures.settles.contained
 
 pub returns-then-quits-clause-stands : goal.returns-then-quits-clause-stands
 returns-then-quits-clause-stands g c =
     let l = c.bytes_came.ensures in
     let used = kept-used c.args.link.0 c.args.headless.now (g.S.Sockets.seen c.args.sockets.now) c.requires.agrees (ap is_some (c.in-Some.ensures.found (new_state c.args.link None false))) in
-    let same = l.takes.used in
+    let same = l.takes.takes.used in
     c.settle.ensures.settles.stands c.args.link.0 (omega arith) l.stands
 
 pub returns-else-quits-clause-continues : goal.returns-else-quits-clause-continues
@@ -114,13 +114,13 @@ returns-else-quits-clause-within g c = λ t.
 pub returns-else-quits-clause-contained : goal.returns-else-quits-clause-contained
 returns-else-quits-clause-contained g c =
     let l = c.bytes_came.ensures in
-    KeepsLinks-trans c.args.headless.now c.bytes_came.new.self _ (KeepsLinks-takes c.args.headless.now c.bytes_came.new.self _ l.takes l.causes.rises) c.settle.ensures.settles.contained
+    KeepsLinks-trans c.args.headless.now c.bytes_came.new.self _ (KeepsLinks-takes c.args.headless.now c.bytes_came.new.self _ l.takes.takes l.causes.rises) c.settle.ensures.settles.contained
 
 pub returns-else-quits-clause-stands : goal.returns-else-quits-clause-stands
 returns-else-quits-clause-stands g c =
     let l = c.bytes_came.ensures in
     let used = kept-used c.args.link.0 c.args.headless.now (g.S.Sockets.seen c.args.sockets.now) c.requires.agrees (ap is_some (c.in-Some.ensures.found (new_state c.args.link None false))) in
-    let same = l.takes.used in
+    let same = l.takes.takes.used in
     c.settle.ensures.settles.stands c.args.link.0 (omega arith) l.stands
 
 pub returns-then-quits-clause-drained : goal.returns-then-quits-clause-drained
@@ -142,7 +142,7 @@ settle-requires-in-Ok-End-clause-agrees g c =
     let seen = g.S.Sockets.seen in
     let x = c.args.headless.now in
     let first = LoopStep-lost x c.link_gone.new.self c.args.link (Ended c.args.link) CauseEnded (seen c.args.sockets.now) (seen c.read.new.self)
-    (record { call = record { told = e.told; taken = e.taken; asked = e.asked; counts = e.counts }; sent = e.sent; choked = e.choked; asked = e.asked; same = record { used = e.used; there = e.there; undrained = λ k. e.undrained k ∙ and-not-none _ _; blocked = e.blocked; listening = e.listening } }) refl refl c.requires.calm c.requires.going (l.ended refl) (λ taken. ended-of c.args.link.0) l.core (λ t. record { front = []; rest = []; taken = e.taken t }) in
+    (record { call = record { told = e.told; taken = e.taken; asked = e.asked; counts = e.counts }; sent = e.sent; choked = e.choked; asked = e.asked; same = record { used = e.used; there = e.there; undrained = λ k. e.undrained k ∙ and-not-none _ _; blocked = e.blocked; listening = e.listening } }) refl refl c.requires.calm c.requires.going (l.ended refl) (λ taken. ended-of c.args.link.0) l.core (λ t. inl (record { front = []; rest = []; taken = e.taken t })) in
     first.agrees c.requires.agrees
 
 pub returns-in-Ok-End-clause-continues : goal.returns-in-Ok-End-clause-continues
@@ -152,7 +152,7 @@ returns-in-Ok-End-clause-continues g c =
     let seen = g.S.Sockets.seen in
     let x = c.args.headless.now in
     let first = LoopStep-lost x c.link_gone.new.self c.args.link (Ended c.args.link) CauseEnded (seen c.args.sockets.now) (seen c.read.new.self)
-    (record { call = record { told = e.told; taken = e.taken; asked = e.asked; counts = e.counts }; sent = e.sent; choked = e.choked; asked = e.asked; same = record { used = e.used; there = e.there; undrained = λ k. e.undrained k ∙ and-not-none _ _; blocked = e.blocked; listening = e.listening } }) refl refl c.requires.calm c.requires.going (l.ended refl) (λ taken. ended-of c.args.link.0) l.core (λ t. record { front = []; rest = []; taken = e.taken t }) in
+    (record { call = record { told = e.told; taken = e.taken; asked = e.asked; counts = e.counts }; sent = e.sent; choked = e.choked; asked = e.asked; same = record { used = e.used; there = e.there; undrained = λ k. e.undrained k ∙ and-not-none _ _; blocked = e.blocked; listening = e.listening } }) refl refl c.requires.calm c.requires.going (l.ended refl) (λ taken. ended-of c.args.link.0) l.core (λ t. inl (record { front = []; rest = []; taken = e.taken t })) in
     LoopStep-trans x c.link_gone.new.self _ (seen c.args.sockets.now) (seen c.read.new.self) _ first c.settle-in-Ok-End.ensures.continues
 
 pub returns-in-Ok-End-clause-reads : goal.returns-in-Ok-End-clause-reads
@@ -171,7 +171,7 @@ returns-in-Ok-End-clause-drained g c = λ none s on.
     let seen = g.S.Sockets.seen in
     let x = c.args.headless.now in
     let first = LoopStep-lost x c.link_gone.new.self c.args.link (Ended c.args.link) CauseEnded (seen c.args.sockets.now) (seen c.read.new.self)
-    (record { call = record { told = e.told; taken = e.taken; asked = e.asked; counts = e.counts }; sent = e.sent; choked = e.choked; asked = e.asked; same = record { used = e.used; there = e.there; undrained = λ k. e.undrained k ∙ and-not-none _ _; blocked = e.blocked; listening = e.listening } }) refl refl c.requires.calm c.requires.going (l.ended refl) (λ taken. ended-of c.args.link.0) l.core (λ t. record { front = []; rest = []; taken = e.taken t }) in
+    (record { call = record { told = e.told; taken = e.taken; asked = e.asked; counts = e.counts }; sent = e.sent; choked = e.choked; asked = e.asked; same = record { used = e.used; there = e.there; undrained = λ k. e.undrained k ∙ and-not-none _ _; blocked = e.blocked; listening = e.listening } }) refl refl c.requires.calm c.requires.going (l.ended refl) (λ taken. ended-of c.args.link.0) l.core (λ t. inl (record { front = []; rest = []; taken = e.taken t })) in
     let p = c.settle-in-Ok-End.ensures in
     settled-drained c.args.link.0 c.link_gone.new.self c.settle-in-Ok-End.new.headless (seen c.read.new.self) (seen c.settle-in-Ok-End.new.sockets) (p.continues.agrees (first.agrees s)) p.settles
     (lost-leaves c.args.link.0 CauseEnded x.core c.link_gone.new.self.core l.core (kept-party c.args.link.0 x (seen c.args.sockets.now) s (ap is_some (c.in-Some.ensures.found (new_state c.args.link None false)))))

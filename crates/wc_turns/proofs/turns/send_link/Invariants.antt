@@ -1,7 +1,6 @@
 use Rattle.std.proofs.Common.{true, length}
-use Rattle.wc_turns.specs.Parties.{unsent_on}
 use Rattle.wc_turns.specs.Parts.{FailureIgnored, SendsOn}
-use Rattle.wc_turns.specs.Turns.{LoopStep}
+use Rattle.wc_turns.specs.Turns.{LoopStep, left_on}
 use Rattle.wc_turns.proofs.turns.send_link.Given as goal
 
 abbrev pub invariant-loop-link : goal.invariant-loop-link
@@ -12,4 +11,4 @@ invariant-loop-link g l = record {
 }
 
 abbrev pub decreases-loop-link : goal.decreases-loop-link
-decreases-loop-link g l = length (unsent_on l.link.0 l.headless.core)
+decreases-loop-link g l = length (left_on l.link.0 l.headless)

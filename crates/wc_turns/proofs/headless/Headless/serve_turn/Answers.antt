@@ -41,7 +41,7 @@ returns-clause-served g c = λ on.
     let e = c.serve_ready-listened.ensures in
     let seen = g.S.Sockets.seen in
     let goes = goes-on c.serve_ready-listened.result _ c.turn_end.result c.turn_end.ensures on in
-    AllServed-following c.serve_ready-listened.new.headless.core (seen c.args.sockets.now) (seen c.wake.new.sockets) (seen c.serve_ready-listened.new.sockets) (later-of _ _ woken.continues) (later-of _ _ e.continues)
+    AllServed-following c.serve_ready-listened.new.headless (seen c.args.sockets.now) (seen c.wake.new.sockets) (seen c.serve_ready-listened.new.sockets) (later-of _ _ woken.continues) (later-of _ _ e.continues)
     (OnOk-get c.serve_ready-listened.result _ goes.0 e.served (woken.continues.agrees c.requires.agrees) goes.1)
 
 pub returns-clause-sent : goal.returns-clause-sent
@@ -49,7 +49,7 @@ returns-clause-sent g c = λ quit.
     let woken = OnOk-get c.wake.result _ (sym c.is_err.ensures.value ∙ c.if-is_err.false) c.wake.ensures.woken in
     let e = c.serve_ready-listened.ensures in
     let seen = g.S.Sockets.seen in
-    AllSent-following c.serve_ready-listened.new.headless.core (seen c.args.sockets.now) (seen c.wake.new.sockets) (seen c.serve_ready-listened.new.sockets) (later-of _ _ woken.continues) (later-of _ _ e.continues) woken.continues.counts
+    AllSent-following c.serve_ready-listened.new.headless (seen c.args.sockets.now) (seen c.wake.new.sockets) (seen c.serve_ready-listened.new.sockets) (later-of _ _ woken.continues) (later-of _ _ e.continues) woken.continues.counts
     (e.sent (woken.continues.agrees c.requires.agrees) (quits-by c.serve_ready-listened.result _ c.turn_end.result c.turn_end.ensures quit))
 
 pub returns-clause-within : goal.returns-clause-within

@@ -1,0 +1,4 @@
+pub mod FramingLemmas
+pub mod MessagesLemmas
+pub mod OpeningLemmas
+pub mod UnframedLemmas

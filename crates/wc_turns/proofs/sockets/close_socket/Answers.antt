@@ -1,0 +1,20 @@
+use Rattle.std.proofs.Common.{refl}
+use Rattle.wc_turns.proofs.FramesLemmas.{MayTake-end, idle-end}
+use Rattle.wc_turns.proofs.LossLemmas.{LosesLink-of}
+use Rattle.wc_turns.proofs.SeatLemmas.{loses-keeps}
+use Rattle.wc_turns.proofs.sockets.close_socket.Goals as goal
+
+pub returns : goal.returns
+returns c =
+    let e = c.link_gone.ensures in
+    let n = c.count_end.ensures in
+    let link = c.args.state.now.link.0 in
+    record {
+      closes = record {
+        state = refl;
+        takes = MayTake-end c.args.cause link c.args.core.now c.link_gone.new.self c.args.ran.now c.count_end.new.ran c.requires.cause c.requires.going n.starves n.counts e.does e.counted;
+        loses = LosesLink-of c.args.core.now c.link_gone.new.self link c.args.cause e.does e.stays e.gone e.servers;
+        idle = idle-end c.args.cause c.args.ran.now c.count_end.new.ran c.requires.cause n.starves n.counts;
+        wanted = (loses-keeps _ link c.args.cause c.args.core.now.servers c.link_gone.new.self.servers e.servers).wanted;
+      };
+    }
