@@ -1,7 +1,7 @@
 #!/usr/bin/env python3
 """Measures logins over the WeeChat relay protocol.
 
-Makes connections one after another. Each logs in, waits for the answer to a first ping, and is
+Makes connections one after another, for each algorithm. Each logs in, waits for the answer to a first ping, and is
 closed again. A plain login is one line; a login with a hash asks for the nonce by `handshake`,
 and sends the hash of a salt that begins with it. Python 3, standard library only. Example:
 
@@ -17,6 +17,8 @@ import time
 
 from ping import TIMEOUT, pong, receive
 
+ALGORITHMS = ("plain", "sha256", "sha512", "pbkdf2+sha256", "pbkdf2+sha512")
+
 
 def message(link):
     """The bytes of one whole message, without its length."""
@@ -25,7 +27,7 @@ def message(link):
 
 
 def pairs(body):
-    """The pairs of the one table of texts that a message has behind its id."""
+    """The pairs of the one table of texts that a message has after its id."""
     place = 1
     texts = []
 
@@ -49,14 +51,22 @@ def pairs(body):
 
 
 def hashed(link, algorithm, password):
-    """The line that logs in by a hash, with a salt of the client's own behind the nonce."""
+    """The line that logs in by a hash, with a salt of the client's own after the nonce."""
     link.sendall(b"handshake password_hash_algo=%s\n" % algorithm.encode())
     answer = pairs(message(link))
     if answer[b"password_hash_algo"] != algorithm.encode():
         raise ValueError("the algorithm %s was not chosen" % algorithm)
     salt = bytes.fromhex(answer[b"nonce"].decode()) + os.urandom(16)
-    digest = hashlib.new(algorithm, salt + password.encode()).hexdigest()
-    return "init password_hash=%s:%s:%s\n" % (algorithm, salt.hex(), digest)
+    return "init password_hash=%s:%s\n" % (algorithm, digest(algorithm, salt, password.encode(), answer))
+
+
+def digest(algorithm, salt, password, answer):
+    """The salt, the rounds where there are any, and the hash."""
+    if not algorithm.startswith("pbkdf2+"):
+        return "%s:%s" % (salt.hex(), hashlib.new(algorithm, salt + password).hexdigest())
+    rounds = int(answer[b"password_hash_iterations"])
+    spelled = hashlib.pbkdf2_hmac(algorithm.removeprefix("pbkdf2+"), password, salt, rounds).hex()
+    return "%s:%d:%s" % (salt.hex(), rounds, spelled)
 
 
 def plain(link, algorithm, password):
@@ -65,7 +75,7 @@ def plain(link, algorithm, password):
 
 
 def log_in(host, port, way, algorithm, password):
-    """One connection, which is closed behind the answer to its first ping."""
+    """One connection, which is closed after the answer to its first ping."""
     with socket.create_connection((host, port), timeout=TIMEOUT) as link:
         link.setsockopt(socket.IPPROTO_TCP, socket.TCP_NODELAY, 1)
         link.sendall(way(link, algorithm, password).encode() + b"ping in\n")
@@ -81,13 +91,16 @@ def main():
     parser.add_argument("--password", default="x")
     parser.add_argument("--count", type=int, default=500)
     chosen = parser.parse_args()
-    for name, way in (("plain", plain), ("sha256", hashed), ("sha512", hashed)):
+    for name in ALGORITHMS:
+        way = plain if name == "plain" else hashed
+        # a hash of many rounds takes so much longer that a fiftieth of the logins will do
+        count = max(1, chosen.count // 50) if name.startswith("pbkdf2+") else chosen.count
         start = time.perf_counter()
-        for _ in range(chosen.count):
+        for _ in range(count):
             log_in(chosen.host, chosen.port, way, name, chosen.password)
         seconds = time.perf_counter() - start
         print("%d logins, %s: %.1f us each, %.0f each second" % (
-            chosen.count, name, seconds / chosen.count * 1e6, chosen.count / seconds))
+            count, name, seconds / count * 1e6, count / seconds))
 
 
 if __name__ == "__main__":

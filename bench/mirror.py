@@ -82,12 +82,19 @@ class Message:
 class Client:
     """A connection, and a copy of the buffers in groups, of their lines and of their nicklists."""
 
-    def __init__(self, port, password, limit):
-        self.link = socket.create_connection(("127.0.0.1", port))
-        self.link.setsockopt(socket.IPPROTO_TCP, socket.TCP_NODELAY, 1)
+    def __init__(self, link, login, limit):
+        self.link = link
         self.bytes, self.limit, self.groups, self.lines, self.nicks = b"", limit, [], {}, {}
-        self.send("init password=%s\nsync" % password)
+        self.send(login.rstrip("\n"))
+        self.send("sync")
         self.groups, self.lines, self.nicks = self.dumps()
+
+    @classmethod
+    def plain(cls, port, password, limit):
+        """A client over TCP that logs in by the password as it is."""
+        link = socket.create_connection(("127.0.0.1", port))
+        link.setsockopt(socket.IPPROTO_TCP, socket.TCP_NODELAY, 1)
+        return cls(link, "init password=" + password, limit)
 
     def send(self, line):
         self.link.sendall(line.encode() + b"\n")
@@ -211,7 +218,7 @@ def command(dice, client, names):
 
 
 def check(words):
-    clients = [Client(words.port, words.password, words.limit) for _ in range(2)]
+    clients = [Client.plain(words.port, words.password, words.limit) for _ in range(2)]
     dice, names = random.Random(words.seed), ["n%d" % n for n in range(12)]
     for round in range(words.rounds):
         for client in clients:
@@ -229,7 +236,7 @@ def check(words):
 
 
 def measure(words):
-    client = Client(words.port, words.password, words.limit)
+    client = Client.plain(words.port, words.password, words.limit)
     for n in range(words.buffers - 1):
         client.send("input core.weechat /buffer add m%d" % n)
     client.settle()
