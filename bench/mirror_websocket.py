@@ -24,14 +24,13 @@ class Link:
 
     def __init__(self, port):
         self.loop, self.held, self.sent = asyncio.new_event_loop(), b"", 0
-        address = "ws://127.0.0.1:%d/weechat" % port
-        self.socket = self.wait(websockets.connect(address, max_size=None))
+        self.socket = self.wait(self.connect("ws://127.0.0.1:%d/weechat" % port))
 
     def wait(self, call):
-        return self.loop.run_until_complete(self.until(call))
+        return self.loop.run_until_complete(call)
 
-    async def until(self, call):
-        return await call
+    async def connect(self, address):
+        return await websockets.connect(address, max_size=None)
 
     def sendall(self, data):
         """Sends bytes as a text message, as a binary one, or as two messages that cut a line, in turn."""

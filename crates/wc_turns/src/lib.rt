@@ -15,4 +15,6 @@ mod turns;
 
 pub use headless::Headless;
 pub use links::{Closed, LinkState};
+pub use sockets::{WsThen, serve_ws};
+pub use tail::Tail;
 pub use turn::TurnEnd;

@@ -115,7 +115,9 @@ fn serve_piece(
 }
 
 /// Serves the lines of the messages that are at the front of what was fed, up to one that runs
-/// `/quit`: payloads of text and binary messages, one after the other, are the text of the link.
+/// `/quit`: payloads of text and binary messages, one after the other, are the text of the link. It
+/// is to be closed where a close was read, for a head or a frame that is none, and where there is no
+/// memory for a payload.
 pub fn serve_ws(
     alloc: Global,
     socket: &mut WsLink,
@@ -221,8 +223,9 @@ impl Headless {
     ghost use Rattle.wc_turns.specs.Sockets.{PutsMessages, PutsOrLoses, to_send, SendsFirst};
 
     /// Puts each whole message that the client of a WebSocket link is owed into a frame, up to one
-    /// that is refused.
-    pub(crate) fn frame_unsent(&mut self, link: LinkId) -> Option<PutRefused>
+    /// that is refused. It answers why that was, and nothing where all were put, or the link is no
+    /// WebSocket or has no client; then nothing changes.
+    pub fn frame_unsent(&mut self, link: LinkId) -> Option<PutRefused>
         ensures { PutsMessages link.0 self.old self.new result }
     {
         let place = self.links.place(link)?;
