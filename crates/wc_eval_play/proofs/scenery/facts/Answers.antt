@@ -8,7 +8,5 @@ returns c =
     let none = subst (All HasText) (sym c.new-facts.ensures) (All-nil HasText) in
     let one = subst (All HasText) (sym c.in_ok-push.ensures.ok) (All-push HasText c.new-facts.result
     c.in_ok-pair.field-0 none c.in_ok-pair.ensures) in
-    let two = subst (All HasText) (sym c.in_ok-push-2.ensures.ok) (All-push HasText c.push.new.self
-    c.in_ok-pair-2.field-0 one c.in_ok-pair-2.ensures) in
-    subst (All HasText) (sym c.in_ok-push-3.ensures.ok) (All-push HasText c.push-2.new.self
-    c.in_ok-pair-3.field-0 two c.in_ok-pair-3.ensures)
+    subst (All HasText) (sym c.in_ok-push-2.ensures.ok) (All-push HasText c.push.new.self
+    c.in_ok-pair-2.field-0 one c.in_ok-pair-2.ensures)
