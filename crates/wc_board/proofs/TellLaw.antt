@@ -33,7 +33,7 @@ use Rattle.wc_world.proofs.MapLemmas.{tied, eqb_turned}
 use Rattle.wc_world.proofs.NicksDone.{adding_refused, after_adding, after_removing, after_changing, may_add}
 use Rattle.wc_board.specs.BoardView.{NoStrayTouches}
 use Rattle.wc_board.specs.Pushes.{AreHeld}
-use Rattle.wc_board.specs.Told.{Told, told_of, NothingTouched, WasTold, AreTold, first_of, first_after, AreTouched}
+use Rattle.wc_board.specs.Told.{Told, told_of, AllPushed, WasTold, AreTold, first_of, first_after, AreTouched}
 
 -- ---- rows by their buffer
 
@@ -210,10 +210,10 @@ change_keeps_told w change old new told free are stray touched was = tell_law w 
 
 -- ---- pushed rows
 
-pub rows_told : (w : World) (pending : List OfBuffer) → AreHeld w → NothingTouched pending → AreTold w pending (rows_at w)
+pub rows_told : (w : World) (pending : List OfBuffer) → AreHeld w → AllPushed pending → AreTold w pending (rows_at w)
 rows_told w pending held nothing b = told_same (first_of pending b) (λ k. None) (rows_at w b.0) (rows_at w b.0) (λ k. ap (before_at k) (nothing b)) (pushed_told (rows_at w b.0) (held b.0))
 
-pub told_rows : (w : World) (pending : List OfBuffer) (told : ℕ → List Row) → AreHeld w → NothingTouched pending → AreTold w pending told → (b : ℕ) → told b ≡ rows_at w b
+pub told_rows : (w : World) (pending : List OfBuffer) (told : ℕ → List Row) → AreHeld w → AllPushed pending → AreTold w pending told → (b : ℕ) → told b ≡ rows_at w b
 told_rows w pending told held nothing was b =
     let h : Handle = record { 0 = b } in
     untouched_told (first_of pending h) (rows_at w b) (told b) (held b) (λ k. ap (before_at k) (nothing h)) (was h)

@@ -23,8 +23,8 @@ abbrev pub told_of : Told → ℕ → List Row
 told_of told buffer = unwrap_or (get told buffer) []
 
 -- no key was touched since each buffer's last push
-abbrev pub NothingTouched : List OfBuffer → Type 0
-NothingTouched pending = (buffer : Handle) → touches_of buffer pending ≡ []
+abbrev pub AllPushed : List OfBuffer → Type 0
+AllPushed pending = (buffer : Handle) → touches_of buffer pending ≡ []
 
 -- these are the rows that were told of a buffer
 abbrev pub WasTold : World → List OfBuffer → Handle → List Row → Type 0

@@ -10,7 +10,7 @@ ghost use Rattle.wc_model.specs.Touches.{told_after};
 ghost use Rattle.wc_model.specs.World.{World, rows_at};
 ghost use Rattle.wc_board.specs.BoardView.{NoStrayTouches};
 ghost use Rattle.wc_board.specs.Pushes.{AreHeld};
-ghost use Rattle.wc_board.specs.Told.{Told, told_of, NothingTouched, AreTold, AreTouched};
+ghost use Rattle.wc_board.specs.Told.{Told, told_of, AllPushed, AreTold, AreTouched};
 
 /// An accepted change keeps the rows that were told, but for those of a buffer that came, of which
 /// none were told, and of one that went. The buffers after it are buffers that a world can hold.
@@ -26,8 +26,8 @@ pub fn tell_keeps_told()
 /// Where nothing was touched since the last push, the rows that were told are the rows.
 pub fn push_tells_rows()
     ensures are { (world : World) (pending : List OfBuffer) → AreHeld world →
-        NothingTouched pending → AreTold world pending (rows_at world) }
+        AllPushed pending → AreTold world pending (rows_at world) }
     ensures only { (world : World) (pending : List OfBuffer) (told : ℕ → List Row) →
-        AreHeld world → NothingTouched pending → AreTold world pending told → (buffer : ℕ) →
+        AreHeld world → AllPushed pending → AreTold world pending told → (buffer : ℕ) →
         told buffer ≡ rows_at world buffer }
 {}
