@@ -16,6 +16,9 @@ use Rattle.wc_session.specs.Sync.{follows, after_event}
 use Rattle.wc_board.specs.declared.connection.Connection.{Connection}
 use Rattle.wc_board.specs.Connections.{is_open}
 use Rattle.wc_board.specs.Served.{listens, noted_connection, heard_connection, starved_connection, told_connection, ConnectionServed, ConnectionsServed, ConnectionKept, ConnectionsKept}
+use Rattle.wc_board.specs.declared.connection.Service.{Service}
+use Rattle.wc_board.specs.declared.connection.Service.TheVariants.{Tell, Starve}
+use Rattle.wc_board.specs.Services.{serve_connection}
 use Rattle.wc_board.proofs.ConnectionLemmas.{ConnectionKept-refl}
 
 abbrev spelt : List WireMessage → List ℕ
@@ -91,6 +94,31 @@ told_kept w n connection = by (is_open connection) refl where
   by true e = record { link = refl; kept = λ shut. absurd (cc); cause = inl refl }
   by false e = ConnectionKept-refl connection
 
+-- ---- a connection whose client is leaving
+
+noted_shut : (kind : EventKind) (buffer : ℕ) (connection : Connection) → is_open connection ≡ false → noted_connection kind buffer connection ≡ connection
+noted_shut kind buffer connection shut = ap (λ b. cond b (following kind buffer connection connection.session.unsent) connection) shut
+
+-- it is left as it is
+pub serve_shut : (service : Service) (connection : Connection) → is_open connection ≡ false → serve_connection service connection ≡ connection
+serve_shut (Tell event) connection shut = ap (λ b. cond b (record connection { session = with_event event connection.session }) connection) shut
+serve_shut (Starve kind buffer) connection shut =
+    ap (λ b. cond (b && follows kind buffer.0 connection.session.client) (record connection { leaving = Some NoMemory }) (noted_connection kind buffer.0 connection)) shut
+    ∙ noted_shut kind buffer.0 connection shut
+
+-- it is open after an event that is not told exactly where it was, on the same link
+pub noted_open : (kind : EventKind) (buffer : ℕ) (connection : Connection) → is_open (noted_connection kind buffer connection) ≡ is_open connection
+noted_open kind buffer connection = by (is_open connection) where
+  by : (b : Bool) → is_open (cond b (following kind buffer connection connection.session.unsent) connection) ≡ is_open connection
+  by true = refl
+  by false = refl
+
+pub noted_link : (kind : EventKind) (buffer : ℕ) (connection : Connection) → (noted_connection kind buffer connection).session.client.link ≡ connection.session.client.link
+noted_link kind buffer connection = by (is_open connection) where
+  by : (b : Bool) → (cond b (following kind buffer connection connection.session.unsent) connection).session.client.link ≡ connection.session.client.link
+  by true = refl
+  by false = refl
+
 -- ---- all connections
 
 pub all_deaf : (w : World) (n : Notice) (connections : List Connection) → list_any (λ connection. listens n.kind n.buffer.0 connection) connections ≡ false → map (noted_connection n.kind n.buffer.0) connections ≡ map (told_connection w n) connections
@@ -113,6 +141,16 @@ served_map kind buffer service (connection ∷ connections) = (inl refl, served_
 pub served_starved : (kind : EventKind) (buffer : ℕ) (service : Connection → Connection) (connections : List Connection) → ConnectionsServed kind buffer service connections (map (starved_connection kind buffer) connections)
 served_starved kind buffer service [] = tt
 served_starved kind buffer service (connection ∷ connections) = (inr refl, served_starved kind buffer service connections)
+
+-- where no memory is found for an event, there is nothing else to serve
+pub served_starving : (kind : EventKind) (buffer : ℕ) (old new : List Connection) → ConnectionsServed kind buffer (starved_connection kind buffer) old new → new ≡ map (starved_connection kind buffer) old
+served_starving kind buffer [] [] served = refl
+served_starving kind buffer [] (b ∷ new) served = absurd served
+served_starving kind buffer (a ∷ old) [] served = absurd served
+served_starving kind buffer (a ∷ old) (b ∷ new) served = ap (λ s. s ∷ new) (one served.0) ∙ ap (λ ss. starved_connection kind buffer a ∷ ss) (served_starving kind buffer old new served.1) where
+  one : ConnectionServed kind buffer (starved_connection kind buffer) a b → b ≡ starved_connection kind buffer a
+  one (inl e) = e
+  one (inr e) = e
 
 -- who was told the event was told the notice
 pub served_heard : (event : Spelled) (w : World) (n : Notice) (old new : List Connection) → IsEventOf event w n → ConnectionsServed event.kind event.buffer.0 (heard_connection event) old new → ConnectionsServed n.kind n.buffer.0 (told_connection w n) old new

@@ -1,10 +1,14 @@
 pub mod ConnectionLemmas
 pub mod EventLemmas
+pub mod HookedChanges
+pub mod HookedLemmas
 pub mod NickPushes
 pub mod NoticeText
+pub mod PassLemmas
 pub mod PushConnections
 pub mod PushEach
 pub mod PushedBytes
+pub mod ReplyLinks
 pub mod RequestLemmas
 pub mod StrayTouches
 pub mod TellLaw

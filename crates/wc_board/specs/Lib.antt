@@ -1,6 +1,9 @@
 pub mod Answered
 pub mod BoardView
 pub mod Connections
+pub mod Hooked
 pub mod Pushes
+pub mod RelayPass
 pub mod Served
+pub mod Services
 pub mod Told

@@ -14,9 +14,10 @@ ghost use Rattle.wc_board.specs.Pushes.{pushed_connection, pushed_bytes, EachPus
 ghost use Rattle.wc_board.specs.Served.{told_connection, ConnectionsServed, ConnectionsKept};
 ghost use Rattle.wc_board.specs.Told.{AreTold, AreTouched};
 
-use crate::connection::{Connection, tell_notice};
+use crate::clients::Clients;
 use crate::nick_change::change_world;
 use crate::pushes::{forget_nicks, push_nicks};
+use crate::telling::tell_notice;
 use std::alloc::Global;
 use std::marker::Model;
 use wc_model::{Change, ChangeRefused, Notice};
@@ -31,7 +32,7 @@ pub struct Board {
     pub(crate) alloc: Global,
     pub(crate) world: World,
     pending: Pending,
-    pub(crate) connections: Vec<Connection>,
+    pub(crate) clients: Clients,
 }
 
 /// A change that was made and told.
@@ -55,7 +56,7 @@ impl Model for Board {
     ghost view = { λ board. record {
       world = board.world;
       pending = board.pending;
-      connections = board.connections.items;
+      connections = board.clients;
     } };
 
     ghost invariant = { λ board. NoStrayTouches board.world board.pending };
@@ -73,11 +74,12 @@ impl Board {
     {
         let world = World::new(alloc, limit)?;
         let pending = Pending::new(alloc)?;
+        let clients = Clients::new(alloc)?;
         Ok(Board {
             alloc,
             world,
             pending,
-            connections: Vec::new(alloc),
+            clients,
         })
     }
 
@@ -107,7 +109,7 @@ impl Board {
         ensures unchanged { OnErr result (IsUnchanged self.old self.new) }
     {
         let notice = change_world(self.alloc, &mut self.world, &mut self.pending, change)?;
-        let to_all = tell_notice(&mut self.connections, self.alloc, &self.world, &notice);
+        let to_all = tell_notice(&mut self.clients, self.alloc, &self.world, &notice);
         Ok(Told { notice, to_all })
     }
 
@@ -135,12 +137,7 @@ impl Board {
         ensures world { self.new.world ≡ self.old.world }
     {
         let _rows = self.world.nicks(CORE);
-        let told = push_nicks(
-            &mut self.connections,
-            self.alloc,
-            &self.world,
-            &self.pending,
-        );
+        let told = push_nicks(&mut self.clients, self.alloc, &self.world, &self.pending);
         self.forget_touches();
         told
     }

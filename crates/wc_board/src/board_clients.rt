@@ -8,15 +8,14 @@ ghost use Rattle.wc_board.specs.Connections.{unsent_at, gone_at, left_at, new_co
 ghost use Rattle.wc_board.specs.Connections.{departure_of};
 
 use crate::board::Board;
-use crate::connection::{
-    Connection, Departure, connection_place, drop_connection, first_departure, open_count,
-};
+use crate::connection::{Connection, Departure, connection_place, first_departure, open_count};
 use wc_options::Options;
 use wc_session::Session;
 use wc_text::{Arrival, Cause, LinkId, NoMemory};
 
 impl Board {
-    /// Admits a client, which comes after the others.
+    /// Admits a client, which comes after the others. Where 64 clients are open, or 2^64 - 1 were
+    /// ever admitted, the answer is NoMemory, so whoever may come to that has to look before.
     pub fn admit(&mut self, arrival: Arrival, options: &Options) -> Result<(), NoMemory>
         ensures admitted { OnOk result (self.new ≡ record self.old {
           connections =
@@ -26,14 +25,7 @@ impl Board {
         ensures refused { OnErr result (self.new ≡ self.old) }
     {
         let session = Session::new(self.alloc, arrival.link, arrival.nonce, options)?;
-        let connection = Connection {
-            session,
-            leaving: None,
-        };
-        if self.connections.push(connection).is_err() {
-            return Err(NoMemory);
-        }
-        Ok(())
+        self.clients.admit(self.alloc, session)
     }
 
     /// Lets the client of a link leave for this cause, where it is open. It takes part in nothing
@@ -46,13 +38,7 @@ impl Board {
         } }
         ensures shut { is_open_at (at_key connection_link link.0 self.new.connections) ≡ false }
     {
-        let Some(place) = connection_place(&self.connections, link) else {
-            return;
-        };
-        if !self.connections[place].is_open() {
-            return;
-        }
-        self.connections[place].leaving = Some(cause);
+        self.clients.retire(link, cause);
     }
 
     /// Forgets the client of a link, as the link is closed.
@@ -62,7 +48,7 @@ impl Board {
               without connection_link link.0 self.old.connections;
         } }
     {
-        drop_connection(&mut self.connections, link);
+        self.clients.forget(link);
     }
 
     /// Takes the first unsent bytes of a client away.
@@ -75,17 +61,16 @@ impl Board {
               (at_key connection_link link.0 self.old.connections);
         } }
     {
-        if let Some(place) = connection_place(&self.connections, link) {
-            self.connections[place].session.gone(count);
-        }
+        self.clients.gone(link, count);
     }
 
     /// Whether a link has a client that is not leaving.
     pub fn is_open(&self, link: LinkId) -> bool
         ensures { result ≡ is_open_at (at_key connection_link link.0 self.now.connections) }
     {
-        match connection_place(&self.connections, link) {
-            Some(place) => self.connections[place].is_open(),
+        let connections = self.clients.as_slice();
+        match connection_place(connections, link) {
+            Some(place) => connections[place].is_open(),
             None => false,
         }
     }
@@ -96,15 +81,16 @@ impl Board {
         ensures { option_copied result
             ≡ session_at (at_key connection_link link.0 self.now.connections) }
     {
-        let place = connection_place(&self.connections, link)?;
-        Some(&self.connections[place].session)
+        let connections = self.clients.as_slice();
+        let place = connection_place(connections, link)?;
+        Some(&connections[place].session)
     }
 
     /// The first client that is leaving.
     pub fn departure(&self) -> Option<Departure>
         ensures { result ≡ departure_of self.now.connections }
     {
-        first_departure(&self.connections)
+        first_departure(self.clients.as_slice())
     }
 
     /// How many clients are open.
@@ -112,13 +98,13 @@ impl Board {
         ensures { result ≡ length (filter (λ connection. is_open connection)
             self.now.connections) }
     {
-        open_count(&self.connections)
+        open_count(self.clients.as_slice())
     }
 
     /// The clients that are open and those that are leaving, in the order in which they came.
     pub fn connections(&self) -> &[Connection]
         ensures { result.now ≡ self.now.connections }
     {
-        self.connections.as_slice()
+        self.clients.as_slice()
     }
 }

@@ -50,8 +50,9 @@ impl Board {
         ensures { result ≡ pushes_before (at_key connection_link link.0 self.now.connections)
             command.now }
     {
-        match connection_place(&self.connections, link) {
-            Some(place) => self.connections[place].session.logged_in() && is_nicklist(command),
+        match connection_place(self.clients.as_slice(), link) {
+            Some(place) => self.clients.as_slice()[place].session.logged_in()
+                && is_nicklist(command),
             None => false,
         }
     }
@@ -62,16 +63,7 @@ impl Board {
         ensures { AnsweredAt link.0 options.now request result self.old self.new
             (at_key connection_link link.0 self.old.connections) }
     {
-        let Some(place) = connection_place(&self.connections, link) else {
-            drop(request);
-            return Outcome::NoMemory;
-        };
-        if !self.connections[place].is_open() {
-            drop(request);
-            return Outcome::NoMemory;
-        }
-        self.connections[place]
-            .session
-            .request(self.alloc, &self.world, options, request)
+        self.clients
+            .answer(self.alloc, &self.world, options, link, request)
     }
 }

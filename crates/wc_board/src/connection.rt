@@ -1,22 +1,29 @@
 ghost use Rattle.std.specs.Prelude.{◌≡◌, ◌==◌, true, false, length, filter, map, position};
 ghost use Rattle.std.specs.List.{list_any};
-ghost use Rattle.std.specs.Str.{IsUtf8};
-ghost use Rattle.wc_outside.specs.Keyed.{PlaceOf, without};
+ghost use Rattle.wc_outside.specs.Keyed.{PlaceOf};
 ghost use Rattle.wc_board.specs.Connections.{connection_link, is_open, departure_of};
 ghost use Rattle.wc_board.specs.Served.{listens, noted_connection, heard_connection};
-ghost use Rattle.wc_board.specs.Served.{starved_connection, told_connection, ConnectionsServed};
+ghost use Rattle.wc_board.specs.Served.{starved_connection};
+ghost use Rattle.wc_board.specs.Services.{kind_of, buffer_of, serve_connection};
 
-use std::alloc::Global;
-use wc_model::{EventKind, Notice};
+use wc_model::EventKind;
 use wc_session::{BufferEvent, Session};
 use wc_text::{Cause, Handle, LinkId};
-use wc_world::World;
 
 /// A client. One that is leaving takes part in nothing more, and its unsent bytes are still lent.
 #[derive(Drop)]
 pub struct Connection {
     pub session: Session,
     pub leaving: Option<Cause>,
+}
+
+/// What a pass does for each client.
+#[derive(Drop)]
+pub enum Service {
+    /// Tells an event.
+    Tell(BufferEvent),
+    /// Serves want of memory for an event of this kind and buffer.
+    Starve(EventKind, Handle),
 }
 
 /// A client that is leaving.
@@ -55,6 +62,9 @@ impl Connection {
         ensures told { result ≡ true → self.new ≡ heard_connection event.now self.old }
         ensures starved { result ≡ false →
             self.new ≡ starved_connection event.now.kind event.now.buffer.0 self.old }
+        ensures stays { result ≡ true → is_open self.new ≡ is_open self.old }
+        ensures shut { result ≡ false → is_open self.new ≡ false }
+        ensures link { self.new.session.client.link ≡ self.old.session.client.link }
     {
         if !self.is_open() {
             return true;
@@ -66,20 +76,40 @@ impl Connection {
         true
     }
 
-    /// Serves want of memory for an event: where it is for this client, the client leaves.
-    fn starve(&mut self, kind: EventKind, buffer: Handle)
-        ensures { self.new ≡ starved_connection kind buffer.0 self.old }
+    /// Serves want of memory for an event: where it is for this client, the client leaves, and the
+    /// answer is false.
+    fn starve(&mut self, kind: EventKind, buffer: Handle) -> bool
+        ensures starved { self.new ≡ starved_connection kind buffer.0 self.old }
+        ensures stays { result ≡ true → is_open self.new ≡ is_open self.old }
+        ensures shut { result ≡ false → is_open self.new ≡ false }
+        ensures link { self.new.session.client.link ≡ self.old.session.client.link }
     {
         if self.listens(kind, buffer) {
             self.leaving = Some(Cause::NoMemory);
-            return;
+            return false;
         }
         self.note(kind, buffer);
+        true
+    }
+
+    /// Does what a pass does for each client. False where the client leaves for want of memory.
+    pub fn serve(&mut self, service: &Service) -> bool
+        ensures served { result ≡ true → self.new ≡ serve_connection service.now self.old }
+        ensures starved { result ≡ false →
+            self.new ≡ starved_connection (kind_of service.now) (buffer_of service.now) self.old }
+        ensures stays { result ≡ true → is_open self.new ≡ is_open self.old }
+        ensures shut { result ≡ false → is_open self.new ≡ false }
+        ensures link { self.new.session.client.link ≡ self.old.session.client.link }
+    {
+        match service {
+            Service::Tell(event) => self.tell(event),
+            Service::Starve(kind, buffer) => self.starve(*kind, *buffer),
+        }
     }
 }
 
 /// Whether an event of a buffer is for some client.
-fn some_listens(connections: &[Connection], kind: EventKind, buffer: Handle) -> bool
+pub fn some_listens(connections: &[Connection], kind: EventKind, buffer: Handle) -> bool
     ensures { result ≡ list_any (λ connection. listens kind buffer.0 connection) connections.now }
 {
     connections
@@ -94,56 +124,6 @@ pub fn note_all(connections: &mut [Connection], kind: EventKind, buffer: Handle)
     for connection in connections.iter_mut() {
         connection.note(kind, buffer);
     }
-}
-
-/// Tells an event to each client that it is for. False where one finds no memory for it.
-pub fn tell_all(connections: &mut [Connection], event: &BufferEvent) -> bool
-    ensures told { result ≡ true →
-        connections.new ≡ map (heard_connection event.now) connections.old }
-    ensures each { ConnectionsServed event.now.kind event.now.buffer.0 (heard_connection event.now)
-        connections.old connections.new }
-{
-    let mut told = true;
-    for connection in connections.iter_mut() {
-        let heard = connection.tell(event);
-        told &= heard;
-    }
-    told
-}
-
-/// Serves want of memory for an event: each client that it is for leaves.
-pub fn starve_all(connections: &mut [Connection], kind: EventKind, buffer: Handle)
-    ensures { connections.new ≡ map (starved_connection kind buffer.0) connections.old }
-{
-    for connection in connections.iter_mut() {
-        connection.starve(kind, buffer);
-    }
-}
-
-/// Tells what was noticed of a change to each client that is open and asked for it, in the world
-/// after the change. Its event is spelled once, where it is for some client. False where memory is
-/// refused: who is not told leaves.
-pub fn tell_notice(
-    connections: &mut [Connection],
-    alloc: Global,
-    world: &World,
-    notice: &Notice,
-) -> bool
-    requires { IsUtf8 notice.now.full_name }
-    ensures told { result ≡ true → connections.new ≡ map (told_connection world.now notice.now)
-        connections.old }
-    ensures each { ConnectionsServed notice.now.kind notice.now.buffer.0
-        (told_connection world.now notice.now) connections.old connections.new }
-{
-    if !some_listens(connections, notice.kind, notice.buffer) {
-        note_all(connections, notice.kind, notice.buffer);
-        return true;
-    }
-    let Ok(event) = BufferEvent::of(alloc, world, notice) else {
-        starve_all(connections, notice.kind, notice.buffer);
-        return false;
-    };
-    tell_all(connections, &event)
 }
 
 /// How many clients are open.
@@ -170,13 +150,6 @@ pub fn connection_place(connections: &[Connection], link: LinkId) -> Option<usiz
     ensures { PlaceOf connection_link link.0 connections.now result }
 {
     position_of(connections, link)
-}
-
-/// Takes the client of a link out.
-pub fn drop_connection(connections: &mut Vec<Connection>, link: LinkId)
-    ensures { connections.new.items ≡ without connection_link link.0 connections.old.items }
-{
-    connections.retain(|connection| connection.session.link() != link);
 }
 
 /// The first client that is leaving.

@@ -4,10 +4,13 @@
 mod board;
 mod board_clients;
 mod board_requests;
+mod clients;
 mod connection;
 mod laws;
 mod nick_change;
 mod pushes;
+mod relay_pass;
+mod telling;
 
 pub use board::{Board, Told};
 pub use connection::{Connection, Departure};

@@ -16,7 +16,8 @@ ghost use Rattle.wc_board.specs.Pushes.{pushed_connection, pushed_bytes, EachPus
 ghost use Rattle.wc_board.specs.Served.{ConnectionsKept};
 ghost use Rattle.wc_board.specs.Told.{WasTold, AreTold};
 
-use crate::connection::{Connection, starve_all, tell_all};
+use crate::clients::Clients;
+use crate::connection::Service;
 use std::alloc::Global;
 use wc_model::EventKind;
 use wc_nickdiff::Pending;
@@ -26,31 +27,26 @@ use wc_world::World;
 
 /// Pushes what became of each nicklist since it was told to each client that is open and asked for
 /// it, in the order of buffers. False where memory is refused: who is not told leaves.
-pub fn push_nicks(
-    connections: &mut [Connection],
-    alloc: Global,
-    world: &World,
-    pending: &Pending,
-) -> bool
+pub fn push_nicks(clients: &mut Clients, alloc: Global, world: &World, pending: &Pending) -> bool
     ensures told { result ≡ true → (told : ℕ → List Row) → AreTold world.now pending.now told →
-        connections.new ≡ map (pushed_connection world.now told (order world.now.groups))
-        connections.old }
+        clients.new ≡ map (pushed_connection world.now told (order world.now.groups))
+        clients.old }
     ensures sent { result ≡ true → (told : ℕ → List Row) → AreTold world.now pending.now told →
-        (link : ℕ) → unsent_on link connections.new ≡ unsent_on link connections.old
+        (link : ℕ) → unsent_on link clients.new ≡ unsent_on link clients.old
         ++ pushed_bytes world.now told (order world.now.groups)
-        (at_key connection_link link connections.old) }
+        (at_key connection_link link clients.old) }
     ensures each { (told : ℕ → List Row) → AreTold world.now pending.now told →
         EachPushed (order world.now.groups)
         (pushed_connection world.now told (order world.now.groups))
-        connections.old connections.new }
-    ensures kept { ConnectionsKept connections.old connections.new }
-    ensures clients { map client_of connections.new ≡ map client_of connections.old }
+        clients.old clients.new }
+    ensures kept { ConnectionsKept clients.old clients.new }
+    ensures clients { map client_of clients.new ≡ map client_of clients.old }
 {
     // Once for all buffers: their rows are rows that a nicklist can hold.
     let _held = world.nicks(Handle(1));
     let mut told = true;
     for group in world.buffers().groups() {
-        let pushed = push_group(connections, alloc, world, pending, group);
+        let pushed = push_group(clients, alloc, world, pending, group);
         told &= pushed;
     }
     told
@@ -58,7 +54,7 @@ pub fn push_nicks(
 
 /// Pushes what became of the nicklists of the buffers of a group.
 fn push_group(
-    connections: &mut [Connection],
+    clients: &mut Clients,
     alloc: Global,
     world: &World,
     pending: &Pending,
@@ -67,18 +63,18 @@ fn push_group(
     requires { AreHeld world.now }
     ensures told { result ≡ true → AreThere world.now group.now → (told : ℕ → List Row) →
         AreTold world.now pending.now told →
-        connections.new ≡ map (pushed_connection world.now told (numbers group.now))
-        connections.old }
+        clients.new ≡ map (pushed_connection world.now told (numbers group.now))
+        clients.old }
     ensures each { AreThere world.now group.now → (told : ℕ → List Row) →
         AreTold world.now pending.now told →
         EachPushed (numbers group.now) (pushed_connection world.now told (numbers group.now))
-        connections.old connections.new }
-    ensures kept { ConnectionsKept connections.old connections.new }
-    ensures clients { map client_of connections.new ≡ map client_of connections.old }
+        clients.old clients.new }
+    ensures kept { ConnectionsKept clients.old clients.new }
+    ensures clients { map client_of clients.new ≡ map client_of clients.old }
 {
     let mut told = true;
     for buffer in group {
-        let pushed = push_buffer(connections, alloc, world, pending, *buffer);
+        let pushed = push_buffer(clients, alloc, world, pending, *buffer);
         told &= pushed;
     }
     told
@@ -94,7 +90,7 @@ fn is_touched(pending: &Pending, buffer: Handle) -> bool
 /// Pushes what became of the nicklist of a buffer. Where no memory is found for it, each client
 /// that follows it leaves. A buffer of which nothing was touched costs no more than to see that.
 fn push_buffer(
-    connections: &mut [Connection],
+    clients: &mut Clients,
     alloc: Global,
     world: &World,
     pending: &Pending,
@@ -103,23 +99,23 @@ fn push_buffer(
     requires { AreHeld world.now }
     ensures told { result ≡ true → is_there buffer world.now.groups ≡ true → (told : List Row) →
         WasTold world.now pending.now buffer told →
-        connections.new ≡ map (push_connection buffer (push_of world.now buffer.0 told))
-        connections.old }
+        clients.new ≡ map (push_connection buffer (push_of world.now buffer.0 told))
+        clients.old }
     ensures each { is_there buffer world.now.groups ≡ true → (told : List Row) →
         WasTold world.now pending.now buffer told →
         EachPushed (buffer.0 ∷ []) (push_connection buffer (push_of world.now buffer.0 told))
-        connections.old connections.new }
-    ensures kept { ConnectionsKept connections.old connections.new }
-    ensures clients { map client_of connections.new ≡ map client_of connections.old }
+        clients.old clients.new }
+    ensures kept { ConnectionsKept clients.old clients.new }
+    ensures clients { map client_of clients.new ≡ map client_of clients.old }
 {
     if !is_touched(pending, buffer) {
         return true;
     }
     match BufferEvent::of_nicks(alloc, world, pending, buffer) {
-        Ok(Some(event)) => tell_all(connections, &event),
+        Ok(Some(event)) => clients.serve_all(alloc, &Service::Tell(event)),
         Ok(None) => true,
         Err(NoMemory) => {
-            starve_all(connections, EventKind::NicklistDiff, buffer);
+            clients.serve_all(alloc, &Service::Starve(EventKind::NicklistDiff, buffer));
             false
         }
     }

@@ -10,14 +10,14 @@ use Rattle.wc_board.proofs.PushEach.{each_first, each_map}
 use Rattle.wc_board.proofs.pushes.push_group.Goals as goal
 
 pub loop-buffer-init : goal.loop-buffer-init
-loop-buffer-init c = record { told = λ t there told are. refl; each = λ there told are final pushed. pushed; there = λ there. there; kept = ConnectionsKept-refl c.args.connections.now; clients = refl }
+loop-buffer-init c = record { told = λ t there told are. refl; each = λ there told are final pushed. pushed; there = λ there. there; kept = ConnectionsKept-refl c.args.clients.now; clients = refl }
 
 pub loop-buffer-preserved : goal.loop-buffer-preserved
 loop-buffer-preserved c =
     let w = c.args.world.now in
     let group = c.args.group.now in
     let i = c.loop-buffer.buffer-index in
-    let connections = c.loop-buffer.connections in
+    let connections = c.loop-buffer.clients in
     let holds = c.loop-buffer.invariant in
     let pushed = c.push_buffer-pushed.ensures in
     let h : Handle = get_or group i (record { 0 = 0 }) in
@@ -32,16 +32,16 @@ loop-buffer-preserved c =
       each = λ there told are final others.
           let P : List Handle → Type 0 = λ hs. EachPushed (numbers hs) (pushed_connection w told (numbers hs)) connections final in
           holds.each there told are final
-          (subst P (sym next) (each_first w told h rest connections c.push_buffer-pushed.new.connections final (pushed.each (subst (AreThere w) next (holds.there there)).0 (told h.0) (are h)) others));
+          (subst P (sym next) (each_first w told h rest connections c.push_buffer-pushed.new.clients final (pushed.each (subst (AreThere w) next (holds.there there)).0 (told h.0) (are h)) others));
       there = λ there. (subst (AreThere w) next (holds.there there)).1;
-      kept = ConnectionsKept-trans c.args.connections.now connections c.push_buffer-pushed.new.connections holds.kept pushed.kept;
+      kept = ConnectionsKept-trans c.args.clients.now connections c.push_buffer-pushed.new.clients holds.kept pushed.kept;
       clients = pushed.clients ∙ holds.clients;
     }
 
 pub returns-clause-told : goal.returns-clause-told
 returns-clause-told c = λ t there told are.
     let w = c.args.world.now in
-    let connections = c.loop-buffer.connections in
+    let connections = c.loop-buffer.clients in
     let end : drop c.loop-buffer.buffer-index c.args.group.now ≡ [] = drop_end c.loop-buffer.buffer-index c.args.group.now (omega arith) in
     sym (map_none (pushed_connection w told []) (pushed_none w told) connections)
     ∙ ap (λ hs. map (pushed_connection w told (numbers hs)) connections) (sym end)
@@ -50,7 +50,7 @@ returns-clause-told c = λ t there told are.
 pub returns-clause-each : goal.returns-clause-each
 returns-clause-each c = λ there told are.
     let w = c.args.world.now in
-    let connections = c.loop-buffer.connections in
+    let connections = c.loop-buffer.clients in
     let end : drop c.loop-buffer.buffer-index c.args.group.now ≡ [] = drop_end c.loop-buffer.buffer-index c.args.group.now (omega arith) in
     let P : List Handle → Type 0 = λ hs. EachPushed (numbers hs) (pushed_connection w told (numbers hs)) connections connections in
     let Q : List Connection → Type 0 = λ final. EachPushed [] (pushed_connection w told []) connections final in

@@ -10,9 +10,9 @@ use Rattle.wc_board.proofs.pushes.push_group.Given as goal
 
 abbrev pub invariant-loop-buffer : goal.invariant-loop-buffer
 invariant-loop-buffer l = record {
-  told : l.told ≡ true → AreThere l.world l.group → (told : ℕ → List Row) → AreTold l.world l.pending told → map (pushed_connection l.world told (numbers (drop l.buffer-index l.group))) l.connections ≡ map (pushed_connection l.world told (numbers l.group)) l.initial.connections;
-  each : AreThere l.world l.group → (told : ℕ → List Row) → AreTold l.world l.pending told → (final : List Connection) → EachPushed (numbers (drop l.buffer-index l.group)) (pushed_connection l.world told (numbers (drop l.buffer-index l.group))) l.connections final → EachPushed (numbers l.group) (pushed_connection l.world told (numbers l.group)) l.initial.connections final;
+  told : l.told ≡ true → AreThere l.world l.group → (told : ℕ → List Row) → AreTold l.world l.pending told → map (pushed_connection l.world told (numbers (drop l.buffer-index l.group))) l.clients ≡ map (pushed_connection l.world told (numbers l.group)) l.initial.clients;
+  each : AreThere l.world l.group → (told : ℕ → List Row) → AreTold l.world l.pending told → (final : List Connection) → EachPushed (numbers (drop l.buffer-index l.group)) (pushed_connection l.world told (numbers (drop l.buffer-index l.group))) l.clients final → EachPushed (numbers l.group) (pushed_connection l.world told (numbers l.group)) l.initial.clients final;
   there : AreThere l.world l.group → AreThere l.world (drop l.buffer-index l.group);
-  kept : ConnectionsKept l.initial.connections l.connections;
-  clients : map client_of l.connections ≡ map client_of l.initial.connections;
+  kept : ConnectionsKept l.initial.clients l.clients;
+  clients : map client_of l.clients ≡ map client_of l.initial.clients;
 }

@@ -21,17 +21,17 @@ loop-group-init c =
     let all : c.into_iter-group-iterator.result ≡ handles w.groups = search rules in
     let order : all_numbers c.into_iter-group-iterator.result ≡ order w.groups = ap all_numbers all ∙ sym (order_handles w.groups) in
     record {
-      told = λ t told are. ap (λ ns. map (pushed_connection w told ns) c.args.connections.now) order;
-      each = λ told are final pushed. (let P : List ℕ → Type 0 = λ ns. EachPushed ns (pushed_connection w told ns) c.args.connections.now final in subst P order pushed);
+      told = λ t told are. ap (λ ns. map (pushed_connection w told ns) c.args.clients.now) order;
+      each = λ told are final pushed. (let P : List ℕ → Type 0 = λ ns. EachPushed ns (pushed_connection w told ns) c.args.clients.now final in subst P order pushed);
       there = subst (AllThere w) (sym all) (all_there w);
-      kept = ConnectionsKept-refl c.args.connections.now;
+      kept = ConnectionsKept-refl c.args.clients.now;
       clients = refl;
     }
 
 pub loop-group-preserved : goal.loop-group-preserved
 loop-group-preserved c =
     let w = c.args.world.now in
-    let connections = c.loop-group.connections in
+    let connections = c.loop-group.clients in
     let group = c.in-Some.group.now in
     let rest = all_numbers c.next.new.self in
     let holds = c.loop-group.invariant in
@@ -46,16 +46,16 @@ loop-group-preserved c =
           ∙ holds.told (and_left c.loop-group.told c.push_group-pushed.result both) told are;
       each = λ told are final others.
           let P : List (List Handle) → Type 0 = λ groups. EachPushed (all_numbers groups) (pushed_connection w told (all_numbers groups)) connections final in
-          holds.each told are final (subst P (sym next) (each_more w told (numbers group) rest connections c.push_group-pushed.new.connections final (pushed.each there.0 told are) others));
+          holds.each told are final (subst P (sym next) (each_more w told (numbers group) rest connections c.push_group-pushed.new.clients final (pushed.each there.0 told are) others));
       there = there.1;
-      kept = ConnectionsKept-trans c.args.connections.now connections c.push_group-pushed.new.connections holds.kept pushed.kept;
+      kept = ConnectionsKept-trans c.args.clients.now connections c.push_group-pushed.new.clients holds.kept pushed.kept;
       clients = pushed.clients ∙ holds.clients;
     }
 
 pub returns-clause-told : goal.returns-clause-told
 returns-clause-told c = λ t told are.
     let w = c.args.world.now in
-    let connections = c.loop-group.connections in
+    let connections = c.loop-group.clients in
     let end : c.loop-group.group-iterator ≡ [] = search rules in
     sym (map_none (pushed_connection w told []) (pushed_none w told) connections)
     ∙ ap (λ groups. map (pushed_connection w told (all_numbers groups)) connections) (sym end)
@@ -64,11 +64,11 @@ returns-clause-told c = λ t told are.
 pub returns-clause-each : goal.returns-clause-each
 returns-clause-each c = λ told are.
     let w = c.args.world.now in
-    let connections = c.loop-group.connections in
+    let connections = c.loop-group.clients in
     let end : c.loop-group.group-iterator ≡ [] = search rules in
     let P : List (List Handle) → Type 0 = λ groups. EachPushed (all_numbers groups) (pushed_connection w told (all_numbers groups)) connections connections in
     let Q : List Connection → Type 0 = λ final. EachPushed [] (pushed_connection w told []) connections final in
     c.loop-group.invariant.each told are connections (subst P (sym end) (subst Q (map_none (pushed_connection w told []) (pushed_none w told) connections) (each_map [] (pushed_connection w told []) connections)))
 
 pub returns-clause-sent : goal.returns-clause-sent
-returns-clause-sent c = λ t told are. pushed-sent c.args.world.now told (order c.args.world.now.groups) c.args.connections.now c.loop-group.connections (returns-clause-told c t told are)
+returns-clause-sent c = λ t told are. pushed-sent c.args.world.now told (order c.args.world.now.groups) c.args.clients.now c.loop-group.clients (returns-clause-told c t told are)

@@ -12,9 +12,9 @@ use Rattle.wc_board.proofs.pushes.push_nicks.Given as goal
 
 abbrev pub invariant-loop-group : goal.invariant-loop-group
 invariant-loop-group l = record {
-  told : l.told ≡ true → (told : ℕ → List Row) → AreTold l.world l.pending told → map (pushed_connection l.world told (all_numbers l.group-iterator)) l.connections ≡ map (pushed_connection l.world told (order l.world.groups)) l.initial.connections;
-  each : (told : ℕ → List Row) → AreTold l.world l.pending told → (final : List Connection) → EachPushed (all_numbers l.group-iterator) (pushed_connection l.world told (all_numbers l.group-iterator)) l.connections final → EachPushed (order l.world.groups) (pushed_connection l.world told (order l.world.groups)) l.initial.connections final;
+  told : l.told ≡ true → (told : ℕ → List Row) → AreTold l.world l.pending told → map (pushed_connection l.world told (all_numbers l.group-iterator)) l.clients ≡ map (pushed_connection l.world told (order l.world.groups)) l.initial.clients;
+  each : (told : ℕ → List Row) → AreTold l.world l.pending told → (final : List Connection) → EachPushed (all_numbers l.group-iterator) (pushed_connection l.world told (all_numbers l.group-iterator)) l.clients final → EachPushed (order l.world.groups) (pushed_connection l.world told (order l.world.groups)) l.initial.clients final;
   there : AllThere l.world l.group-iterator;
-  kept : ConnectionsKept l.initial.connections l.connections;
-  clients : map client_of l.connections ≡ map client_of l.initial.connections;
+  kept : ConnectionsKept l.initial.clients l.clients;
+  clients : map client_of l.clients ≡ map client_of l.initial.clients;
 }
