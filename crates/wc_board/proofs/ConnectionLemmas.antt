@@ -12,10 +12,9 @@ use Rattle.wc_hooks.proofs.Lists.{by_bool, keeps_first, drops_first}
 use Rattle.wc_outside.specs.Keyed.{at_key, without, IsKeyPlace}
 use Rattle.wc_outside.proofs.KeyedLemmas.{at_key-key}
 use Rattle.wc_model.specs.declared.notice.EventKind.{EventKind}
-use Rattle.wc_session.specs.Event.{Spelled}
 use Rattle.wc_board.specs.declared.connection.Connection.{Connection}
 use Rattle.wc_board.specs.Connections.{connection_link, is_open, leaving_in, leaving_on}
-use Rattle.wc_board.specs.Served.{StaysOrStarves, heard_connection, starved_connection, ConnectionServed, ConnectionsServed, ConnectionKept, ConnectionsKept}
+use Rattle.wc_board.specs.Served.{StaysOrStarves, starved_connection, ConnectionServed, ConnectionsServed, ConnectionKept, ConnectionsKept}
 
 pub ConnectionsKept-links : (old new : List Connection) → ConnectionsKept old new → map connection_link new ≡ map connection_link old
 ConnectionsKept-links [] [] kept = refl

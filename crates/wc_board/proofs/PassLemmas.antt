@@ -1,6 +1,6 @@
 -- A pass over the entries of the clients, turn by turn.
 use Rattle.std.proofs.Common.{◌≡◌, ℕ, zero, suc, ◌+◌, ◌<◌, ◌≤◌, Bool, true, false, not, cond, eqb, ◌&&◌, Option, Some, None, List, [], ◌∷◌, ◌++◌, length, map, take, drop, get_or, set, refl, ap, sym, subst, ◌∙◌, arith}
-use Rattle.std.specs.Prelude.{option_to_list, replicate, is_some}
+use Rattle.std.specs.Prelude.{option_to_list, is_some}
 use Rattle.std.proofs.lemmas.Bool.{and_from, false≢true, eq-eqb, eqb-true}
 use Rattle.std.proofs.lemmas.List.{drop-set-lt, drop_all}
 use Rattle.wc_hooks.specs.declared.entry.Entry.{Entry}
@@ -8,7 +8,7 @@ use Rattle.wc_hooks.specs.declared.entry.HookId.{HookId}
 use Rattle.wc_hooks.specs.declared.kind.HookKind.TheVariants.{Relay}
 use Rattle.wc_hooks.specs.Rows.{HookRow, entry_of, is_id, is_on, without}
 use Rattle.wc_hooks.specs.Passes.{hooks_on, due, entries_left, may_run, with_given, without_mark}
-use Rattle.wc_hooks.specs.Table.{Table, Going, IsOpen, pass_at, left_at, left_of, looked_at, over_at, opening, with_pass, without_pass, with_marks, without_row, next_of, after_next}
+use Rattle.wc_hooks.specs.Table.{Table, Going, IsOpen, pass_at, left_at, left_of, looked_at, over_at, opening, with_pass, next_of, after_next}
 use Rattle.wc_hooks.proofs.Lists.{by_bool, drops_first, any_first, any_more}
 use Rattle.wc_board.specs.declared.connection.Connection.{Connection}
 use Rattle.wc_board.specs.Connections.{is_open}
@@ -18,14 +18,8 @@ use Rattle.wc_board.proofs.HookedLemmas.{rising_parts, differs, rows_kept, rows_
 
 -- ---- the place of the pass
 
-alone_at : (pass : Option Going) → get_or (relay_alone pass) 16 None ≡ pass
-alone_at pass = refl
-
 alone_again : (pass other : Option Going) → set (relay_alone pass) 16 other ≡ relay_alone other
 alone_again pass other = refl
-
-alone_shut : (pass : Option Going) → set (relay_alone pass) 16 None ≡ replicate 17 None
-alone_shut pass = refl
 
 -- ---- the entries that are left
 
@@ -242,17 +236,3 @@ all_over table ids i cs (Some entry) pass past =
     let none : entries_from i ids cs ≡ [] = ap (λ rest. map entry_of (entry_rows rest (drop i cs))) (drop_all i ids past) in
     let some : [] ≡ entry ∷ left_at table 16 = sym none ∙ pass.first in
     absurd (cc)
-
--- the pass is closed
-pub pass_closed : (old new : Table) (ids : List HookId) (drawn place : ℕ) (cs : List Connection) → old.rows ≡ entry_rows ids cs → old.marks ≡ [] → old.passes ≡ relay_alone (pass_at old 16) → old.hooked ≡ drawn → are_rising 0 drawn ids ≡ true → length ids ≡ length cs
-    → place ≡ 16 → new ≡ without_pass place old → AreHooked new ids drawn cs
-pass_closed old new ids drawn place cs rows marks passes drawn_is rising each here made =
-    let made_here : new ≡ without_pass 16 old = made ∙ ap (λ n. without_pass n old) here in
-    subst (λ (t : Table). AreHooked t ids drawn cs) (sym made_here) (record {
-      rows = rows;
-      marks = marks;
-      passes = ap (λ ps. set ps 16 None) passes ∙ alone_shut (pass_at old 16);
-      count = drawn_is;
-      rising = rising;
-      each = each;
-    })

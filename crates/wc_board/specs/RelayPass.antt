@@ -1,13 +1,13 @@
 -- What a pass over the entries of the clients has come to.
 use Rattle.std.specs.Prelude.{◌≡◌, ℕ, Bool, true, false, ◌==◌, Option, Some, None, List, [], ◌∷◌}
-use Rattle.std.specs.Prelude.{length, map, drop, replicate, slice_set, option_to_list}
+use Rattle.std.specs.Prelude.{map, drop, replicate, slice_set, option_to_list}
 use Rattle.wc_hooks.specs.declared.entry.Entry.{Entry}
 use Rattle.wc_hooks.specs.declared.entry.HookId.{HookId}
 use Rattle.wc_hooks.specs.Passes.{without_mark}
 use Rattle.wc_hooks.specs.Rows.{entry_of}
 use Rattle.wc_hooks.specs.Table.{Table, Going, IsOpen, pass_at, left_at, with_marks, without_row}
 use Rattle.wc_board.specs.declared.connection.Connection.{Connection}
-use Rattle.wc_board.specs.Hooked.{entry_rows, are_rising}
+use Rattle.wc_board.specs.Hooked.{entry_rows}
 
 -- this pass is open, and no other
 abbrev pub relay_alone : Option Going → List (Option Going)
