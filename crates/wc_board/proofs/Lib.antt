@@ -12,3 +12,4 @@ pub mod ReplyLinks
 pub mod RequestLemmas
 pub mod StrayTouches
 pub mod TellLaw
+pub mod TouchCounts

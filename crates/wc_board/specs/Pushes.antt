@@ -1,12 +1,13 @@
 -- What is pushed of the nicklists that were touched.
 use Rattle.std.specs.Prelude.{◌≡◌, ℕ, Bool, true, ◌⊎◌, List, [], ◌∷◌, ◌++◌, Option, Some, None}
-use Rattle.std.specs.Prelude.{if◌then◌else◌}
+use Rattle.std.specs.Prelude.{if◌then◌else◌, nat_lt, length, filter}
 use Rattle.std.specs.List.{flat_map, list_any}
 use Rattle.wc_text.specs.declared.names.Cause.TheVariants.{NoMemory}
 use Rattle.wc_text.specs.declared.names.Handle.{Handle}
 use Rattle.wc_nicklist.specs.declared.item.Row.{Row}
 use Rattle.wc_nicklist.specs.Rows.{IsRows}
 use Rattle.wc_nickdiff.specs.declared.diff_item.Push.{Push}
+use Rattle.wc_nickdiff.specs.Held.{OfBuffer, touches_of}
 use Rattle.wc_nickdiff.specs.NickPush.{nick_push}
 use Rattle.wc_buffers.specs.Calls.{is_there}
 use Rattle.wc_model.specs.declared.notice.EventKind.TheVariants.{NicklistDiff}
@@ -55,6 +56,14 @@ pushed_bytes world told buffers None = []
 pushed_bytes world told buffers (Some connection) = if is_open connection
     then flat_map (λ m. spelling m) (pushes_told world told buffers connection.session.client)
     else []
+
+-- something was touched of a buffer since its last push
+abbrev pub is_touched : List OfBuffer → ℕ → Bool
+is_touched pending buffer = nat_lt 0 (length (touches_of (record { 0 = buffer }) pending))
+
+-- how many of these buffers were touched
+abbrev pub touched_number : List OfBuffer → List ℕ → ℕ
+touched_number pending buffers = length (filter (λ b. is_touched pending b) buffers)
 
 -- these buffers are there
 abbrev pub AreThere : World → List Handle → Type 0

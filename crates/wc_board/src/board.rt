@@ -16,10 +16,11 @@ ghost use Rattle.wc_board.specs.Told.{AreTold, AreTouched};
 
 use crate::clients::Clients;
 use crate::nick_change::change_world;
-use crate::pushes::{forget_nicks, push_nicks};
-use crate::telling::tell_notice;
+use crate::pushes::{forget_nicks, push_counted};
+use crate::telling::tell_counted;
 use std::alloc::Global;
-use std::marker::Model;
+use std::marker::{Brand, Model};
+use std::sync::ledger::Blank;
 use wc_model::{Change, ChangeRefused, Notice};
 use wc_nickdiff::Pending;
 use wc_text::{Handle, NoMemory};
@@ -109,7 +110,13 @@ impl Board {
         ensures unchanged { OnErr result (IsUnchanged self.old self.new) }
     {
         let notice = change_world(self.alloc, &mut self.world, &mut self.pending, change)?;
-        let to_all = tell_notice(&mut self.clients, self.alloc, &self.world, &notice);
+        let to_all = tell_counted::<Brand>(
+            &mut self.clients,
+            self.alloc,
+            &self.world,
+            &notice,
+            Blank::new(1),
+        );
         Ok(Told { notice, to_all })
     }
 
@@ -137,7 +144,13 @@ impl Board {
         ensures world { self.new.world ≡ self.old.world }
     {
         let _rows = self.world.nicks(CORE);
-        let told = push_nicks(&mut self.clients, self.alloc, &self.world, &self.pending);
+        let told = push_counted::<Brand>(
+            &mut self.clients,
+            self.alloc,
+            &self.world,
+            &self.pending,
+            Blank::new(1),
+        );
         self.forget_touches();
         told
     }

@@ -10,6 +10,7 @@ mod laws;
 mod nick_change;
 mod pushes;
 mod relay_pass;
+mod spellings;
 mod telling;
 
 pub use board::{Board, Told};

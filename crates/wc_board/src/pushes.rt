@@ -1,6 +1,6 @@
 //! The pushes of nicklists, and what is forgotten of what was touched.
 
-ghost use Rattle.std.specs.Prelude.{◌≡◌, ◌==◌, ◌&&◌, ◌++◌, ℕ, List, [], ◌∷◌, true, false, map};
+ghost use Rattle.std.specs.Prelude.{◌≡◌, ◌==◌, ◌&&◌, ◌++◌, ◌+◌, ◌<◌, ◌≤◌, ℕ, List, [], ◌∷◌, true, false, map};
 ghost use Rattle.std.specs.Prelude.{if◌then◌else◌};
 ghost use Rattle.std.specs.List.{list_any};
 ghost use Rattle.wc_text.specs.declared.names.Handle.{Handle as HandleValue};
@@ -13,21 +13,67 @@ ghost use Rattle.wc_world.specs.Near.{numbers};
 ghost use Rattle.wc_board.specs.Connections.{connection_link, client_of, unsent_on};
 ghost use Rattle.wc_board.specs.Pushes.{AreThere, AreHeld, push_of, push_connection};
 ghost use Rattle.wc_board.specs.Pushes.{pushed_connection, pushed_bytes, EachPushed};
+ghost use Rattle.wc_board.specs.Pushes.{is_touched, touched_number};
 ghost use Rattle.wc_board.specs.Served.{ConnectionsKept};
 ghost use Rattle.wc_board.specs.Told.{WasTold, AreTold};
 
 use crate::clients::Clients;
 use crate::connection::Service;
+use crate::spellings::Spellings;
 use std::alloc::Global;
+use std::sync::ledger::{Blank, Ledger};
 use wc_model::EventKind;
 use wc_nickdiff::Pending;
-use wc_session::BufferEvent;
 use wc_text::{Handle, NoMemory};
 use wc_world::World;
 
 /// Pushes what became of each nicklist since it was told to each client that is open and asked for
-/// it, in the order of buffers. False where memory is refused: who is not told leaves.
-pub fn push_nicks(clients: &mut Clients, alloc: Global, world: &World, pending: &Pending) -> bool
+/// it, in the order of buffers, and spells it at most once for each buffer that was touched. False
+/// where memory is refused: who is not told leaves.
+pub fn push_nicks<L: Ledger>(
+    clients: &mut Clients,
+    alloc: Global,
+    world: &World,
+    pending: &Pending,
+    spellings: &mut Spellings<L>,
+) -> bool
+    ensures told { result ≡ true → (told : ℕ → List Row) → AreTold world.now pending.now told →
+        clients.new ≡ map (pushed_connection world.now told (order world.now.groups))
+        clients.old }
+    ensures sent { result ≡ true → (told : ℕ → List Row) → AreTold world.now pending.now told →
+        (link : ℕ) → unsent_on link clients.new ≡ unsent_on link clients.old
+        ++ pushed_bytes world.now told (order world.now.groups)
+        (at_key connection_link link clients.old) }
+    ensures each { (told : ℕ → List Row) → AreTold world.now pending.now told →
+        EachPushed (order world.now.groups)
+        (pushed_connection world.now told (order world.now.groups))
+        clients.old clients.new }
+    ensures kept { ConnectionsKept clients.old clients.new }
+    ensures clients { map client_of clients.new ≡ map client_of clients.old }
+    ensures once { spellings.new
+        ≤ spellings.old + touched_number pending.now (order world.now.groups) }
+{
+    // Once for all buffers: their rows are rows that a nicklist can hold.
+    let _held = world.nicks(Handle(1));
+    let mut told = true;
+    for group in world.buffers().groups() {
+        let pushed = push_group(clients, alloc, world, pending, group, spellings);
+        told &= pushed;
+    }
+    told
+}
+
+/// The same with a count of its own.
+pub fn push_counted<L: Ledger>(
+    clients: &mut Clients,
+    alloc: Global,
+    world: &World,
+    pending: &Pending,
+    blank: Blank,
+) -> bool
+    requires name { blank.name ≡ L.name }
+    requires parts { blank.parts ≡ L.parts }
+    requires some { 0 < L.parts }
     ensures told { result ≡ true → (told : ℕ → List Row) → AreTold world.now pending.now told →
         clients.new ≡ map (pushed_connection world.now told (order world.now.groups))
         clients.old }
@@ -42,23 +88,18 @@ pub fn push_nicks(clients: &mut Clients, alloc: Global, world: &World, pending: 
     ensures kept { ConnectionsKept clients.old clients.new }
     ensures clients { map client_of clients.new ≡ map client_of clients.old }
 {
-    // Once for all buffers: their rows are rows that a nicklist can hold.
-    let _held = world.nicks(Handle(1));
-    let mut told = true;
-    for group in world.buffers().groups() {
-        let pushed = push_group(clients, alloc, world, pending, group);
-        told &= pushed;
-    }
-    told
+    let mut spellings: Spellings<L> = Spellings::new(blank);
+    push_nicks(clients, alloc, world, pending, &mut spellings)
 }
 
 /// Pushes what became of the nicklists of the buffers of a group.
-fn push_group(
+fn push_group<L: Ledger>(
     clients: &mut Clients,
     alloc: Global,
     world: &World,
     pending: &Pending,
     group: &[Handle],
+    spellings: &mut Spellings<L>,
 ) -> bool
     requires { AreHeld world.now }
     ensures told { result ≡ true → AreThere world.now group.now → (told : ℕ → List Row) →
@@ -71,10 +112,12 @@ fn push_group(
         clients.old clients.new }
     ensures kept { ConnectionsKept clients.old clients.new }
     ensures clients { map client_of clients.new ≡ map client_of clients.old }
+    ensures once { spellings.new
+        ≤ spellings.old + touched_number pending.now (numbers group.now) }
 {
     let mut told = true;
     for buffer in group {
-        let pushed = push_buffer(clients, alloc, world, pending, *buffer);
+        let pushed = push_buffer(clients, alloc, world, pending, *buffer, spellings);
         told &= pushed;
     }
     told
@@ -82,19 +125,21 @@ fn push_group(
 
 /// Whether something was touched of a buffer.
 fn is_touched(pending: &Pending, buffer: Handle) -> bool
-    ensures { result ≡ false → touches_of buffer pending.now ≡ [] }
+    ensures exact { result ≡ is_touched pending.now buffer.0 }
+    ensures none { result ≡ false → touches_of buffer pending.now ≡ [] }
 {
     pending.held(buffer) != 0
 }
 
 /// Pushes what became of the nicklist of a buffer. Where no memory is found for it, each client
 /// that follows it leaves. A buffer of which nothing was touched costs no more than to see that.
-fn push_buffer(
+fn push_buffer<L: Ledger>(
     clients: &mut Clients,
     alloc: Global,
     world: &World,
     pending: &Pending,
     buffer: Handle,
+    spellings: &mut Spellings<L>,
 ) -> bool
     requires { AreHeld world.now }
     ensures told { result ≡ true → is_there buffer world.now.groups ≡ true → (told : List Row) →
@@ -107,11 +152,13 @@ fn push_buffer(
         clients.old clients.new }
     ensures kept { ConnectionsKept clients.old clients.new }
     ensures clients { map client_of clients.new ≡ map client_of clients.old }
+    ensures once { spellings.new
+        ≤ spellings.old + touched_number pending.now (buffer.0 ∷ []) }
 {
     if !is_touched(pending, buffer) {
         return true;
     }
-    match BufferEvent::of_nicks(alloc, world, pending, buffer) {
+    match spellings.of_nicks(alloc, world, pending, buffer) {
         Ok(Some(event)) => clients.serve_all(alloc, &Service::Tell(event)),
         Ok(None) => true,
         Err(NoMemory) => {

@@ -1,4 +1,4 @@
-use Rattle.std.proofs.Common.{ap, sym, subst, ◌∙◌, ◌∷◌, [], List, map}
+use Rattle.std.proofs.Common.{ap, sym, subst, ◌∙◌, ◌∷◌, [], List, map, arith}
 use Rattle.wc_model.specs.declared.notice.EventKind.TheVariants.{NicklistDiff}
 use Rattle.wc_board.specs.declared.connection.Connection.{Connection}
 use Rattle.wc_board.specs.Connections.{client_of}
@@ -6,56 +6,75 @@ use Rattle.wc_board.specs.Pushes.{push_of, push_connection, EachPushed}
 use Rattle.wc_board.specs.Served.{heard_connection, ConnectionsKept}
 use Rattle.wc_board.proofs.EventLemmas.{served_starving}
 use Rattle.wc_board.proofs.PushConnections.{untouched_push, all_pushed, event_kept, served_clients, starved_clients, starved_all, ConnectionsKept-refl}
+use Rattle.wc_board.proofs.TouchCounts.{touched_one}
 use Rattle.wc_board.proofs.PushEach.{each_map, each_heard, each_starved}
 use Rattle.wc_board.proofs.pushes.push_buffer.Goals as goal
 
 pub returns-then-not-is_touched-clause-told : goal.returns-then-not-is_touched-clause-told
-returns-then-not-is_touched-clause-told c = λ t there told was.
-    let none = c.is_touched.ensures c.if-not-is_touched.true in
+returns-then-not-is_touched-clause-told g c = λ t there told was.
+    let none = c.is_touched.ensures.none c.if-not-is_touched.true in
     untouched_push c.args.world.now c.args.pending.now c.args.buffer told c.args.clients.now (c.requires c.args.buffer.0) none was
 
 pub returns-then-not-is_touched-clause-each : goal.returns-then-not-is_touched-clause-each
-returns-then-not-is_touched-clause-each c = λ there told was.
-    let none = c.is_touched.ensures c.if-not-is_touched.true in
+returns-then-not-is_touched-clause-each g c = λ there told was.
+    let none = c.is_touched.ensures.none c.if-not-is_touched.true in
     let push = push_connection c.args.buffer (push_of c.args.world.now c.args.buffer.0 told) in
     let same = untouched_push c.args.world.now c.args.pending.now c.args.buffer told c.args.clients.now (c.requires c.args.buffer.0) none was in
     let P : List Connection → Type 0 = λ new. EachPushed (c.args.buffer.0 ∷ []) push c.args.clients.now new in
     subst P (sym same) (each_map (c.args.buffer.0 ∷ []) push c.args.clients.now)
 
 pub returns-then-not-is_touched-clause-kept : goal.returns-then-not-is_touched-clause-kept
-returns-then-not-is_touched-clause-kept c = ConnectionsKept-refl c.args.clients.now
+returns-then-not-is_touched-clause-kept g c = ConnectionsKept-refl c.args.clients.now
 
 pub returns-in-Ok-Some-clause-told : goal.returns-in-Ok-Some-clause-told
-returns-in-Ok-Some-clause-told c = λ t there told was.
+returns-in-Ok-Some-clause-told g c = λ t there told was.
     let is = rw c.in-Ok-Some.field-0-is at c.in-Ok-Some.ensures.told in
     c.serve_all.ensures.told t
     ∙ ap (λ event. map (heard_connection event) c.args.clients.now) c.in-Ok-Some.event-is
     ∙ all_pushed c.in-Ok-Some.event c.args.buffer (push_of c.args.world.now c.args.buffer.0 told) c.args.clients.now (is told was)
 
 pub returns-in-Ok-Some-clause-each : goal.returns-in-Ok-Some-clause-each
-returns-in-Ok-Some-clause-each c = λ there told was.
+returns-in-Ok-Some-clause-each g c = λ there told was.
     let is = rw c.in-Ok-Some.field-0-is at c.in-Ok-Some.ensures.told in
     each_heard c.in-Ok-Some.event c.args.buffer (push_of c.args.world.now c.args.buffer.0 told) c.args.clients.now c.serve_all.new.self (is told was) (rw c.in-Ok-Some.event-is at c.serve_all.ensures.each)
 
 pub returns-in-Ok-Some-clause-kept : goal.returns-in-Ok-Some-clause-kept
-returns-in-Ok-Some-clause-kept c = event_kept _ c.args.clients.now c.serve_all.new.self c.serve_all.ensures.each
+returns-in-Ok-Some-clause-kept g c = event_kept _ c.args.clients.now c.serve_all.new.self c.serve_all.ensures.each
 
 pub returns-in-Ok-None-clause-kept : goal.returns-in-Ok-None-clause-kept
-returns-in-Ok-None-clause-kept c = ConnectionsKept-refl c.args.clients.now
+returns-in-Ok-None-clause-kept g c = ConnectionsKept-refl c.args.clients.now
 
 pub returns-in-Err-clause-each : goal.returns-in-Err-clause-each
-returns-in-Err-clause-each c = λ there told was.
+returns-in-Err-clause-each g c = λ there told was.
     let push = push_of c.args.world.now c.args.buffer.0 told in
     let P : List Connection → Type 0 = λ new. EachPushed (c.args.buffer.0 ∷ []) (push_connection c.args.buffer push) c.args.clients.now new in
     subst P (sym (served_starving NicklistDiff c.args.buffer.0 c.args.clients.now c.serve_all-in-Err.new.self c.serve_all-in-Err.ensures.each)) (each_starved c.args.buffer push c.args.clients.now)
 
 pub returns-in-Err-clause-kept : goal.returns-in-Err-clause-kept
-returns-in-Err-clause-kept c = subst (ConnectionsKept c.args.clients.now) (sym (served_starving NicklistDiff c.args.buffer.0 c.args.clients.now c.serve_all-in-Err.new.self c.serve_all-in-Err.ensures.each)) (starved_all NicklistDiff c.args.buffer.0 c.args.clients.now)
+returns-in-Err-clause-kept g c = subst (ConnectionsKept c.args.clients.now) (sym (served_starving NicklistDiff c.args.buffer.0 c.args.clients.now c.serve_all-in-Err.new.self c.serve_all-in-Err.ensures.each)) (starved_all NicklistDiff c.args.buffer.0 c.args.clients.now)
 
 pub returns-in-Ok-Some-clause-clients : goal.returns-in-Ok-Some-clause-clients
-returns-in-Ok-Some-clause-clients c =
+returns-in-Ok-Some-clause-clients g c =
     let is = rw c.in-Ok-Some.field-0-is at c.in-Ok-Some.ensures.kind in
     served_clients c.in-Ok-Some.event c.args.clients.now c.serve_all.new.self is (rw c.in-Ok-Some.event-is at c.serve_all.ensures.each)
 
 pub returns-in-Err-clause-clients : goal.returns-in-Err-clause-clients
-returns-in-Err-clause-clients c = ap (map client_of) (served_starving NicklistDiff c.args.buffer.0 c.args.clients.now c.serve_all-in-Err.new.self c.serve_all-in-Err.ensures.each) ∙ starved_clients c.args.buffer.0 c.args.clients.now
+returns-in-Err-clause-clients g c = ap (map client_of) (served_starving NicklistDiff c.args.buffer.0 c.args.clients.now c.serve_all-in-Err.new.self c.serve_all-in-Err.ensures.each) ∙ starved_clients c.args.buffer.0 c.args.clients.now
+
+pub returns-in-Ok-Some-clause-once : goal.returns-in-Ok-Some-clause-once
+returns-in-Ok-Some-clause-once g c =
+    let one = touched_one c.args.pending.now c.args.buffer.0 (sym c.is_touched.ensures.exact ∙ c.if-not-is_touched.false) in
+    let counted = c.of_nicks.ensures.count in
+    omega (arith, one, counted)
+
+pub returns-in-Ok-None-clause-once : goal.returns-in-Ok-None-clause-once
+returns-in-Ok-None-clause-once g c =
+    let one = touched_one c.args.pending.now c.args.buffer.0 (sym c.is_touched.ensures.exact ∙ c.if-not-is_touched.false) in
+    let counted = c.of_nicks.ensures.count in
+    omega (arith, one, counted)
+
+pub returns-in-Err-clause-once : goal.returns-in-Err-clause-once
+returns-in-Err-clause-once g c =
+    let one = touched_one c.args.pending.now c.args.buffer.0 (sym c.is_touched.ensures.exact ∙ c.if-not-is_touched.false) in
+    let counted = c.of_nicks.ensures.count in
+    omega (arith, one, counted)

@@ -6,12 +6,12 @@ use Rattle.wc_board.specs.Pushes.{pushed_connection, EachPushed}
 use Rattle.wc_board.proofs.board.Board.push.Goals as goal
 
 pub returns-clause-told : goal.returns-clause-told
-returns-clause-told c = rw (← c.self.view_is) (λ t rows are. c.forget_touches.ensures.connections ∙ c.push_nicks-told.ensures.told t rows are)
+returns-clause-told c = rw (← c.self.view_is) (λ t rows are. c.forget_touches.ensures.connections ∙ c.push_counted-told.ensures.told t rows are)
 
 pub returns-clause-sent : goal.returns-clause-sent
-returns-clause-sent c = rw (← c.self.view_is) (λ t rows are link. ap (unsent_on link) c.forget_touches.ensures.connections ∙ c.push_nicks-told.ensures.sent t rows are link)
+returns-clause-sent c = rw (← c.self.view_is) (λ t rows are link. ap (unsent_on link) c.forget_touches.ensures.connections ∙ c.push_counted-told.ensures.sent t rows are link)
 
 pub returns-clause-each : goal.returns-clause-each
 returns-clause-each c =
     let w = c.self.inside.world in
-    rw (← c.self.view_is) (λ rows are. (let P : List Connection → Type 0 = λ new. EachPushed (order w.groups) (pushed_connection w rows (order w.groups)) c.self.inside.clients new in subst P (sym c.forget_touches.ensures.connections) (c.push_nicks-told.ensures.each rows are)))
+    rw (← c.self.view_is) (λ rows are. (let P : List Connection → Type 0 = λ new. EachPushed (order w.groups) (pushed_connection w rows (order w.groups)) c.self.inside.clients new in subst P (sym c.forget_touches.ensures.connections) (c.push_counted-told.ensures.each rows are)))
