@@ -40,3 +40,8 @@ pub record AreHooked (table : Table) (ids : List HookId) (drawn : ℕ)
   pub count : table.hooked ≡ drawn
   pub rising : are_rising 0 drawn ids ≡ true
   pub each : length ids ≡ length connections
+
+-- the entries of a table are those of these clients, by some numbers
+pub record IsHooked (table : Table) (connections : List Connection) : Type 0 where
+  pub ids : List HookId
+  pub hooked : AreHooked table ids table.hooked connections

@@ -1,4 +1,6 @@
-ghost use Rattle.std.specs.Prelude.{◌≡◌, ◌≤◌, ◌++◌, ℕ, List, [], true, map, IfOk, OnOk, OnErr};
+ghost use Rattle.std.specs.Prelude.{◌≡◌, ◌<◌, ◌≤◌, ◌+◌, ◌++◌, ℕ, List, [], true, false, map};
+ghost use Rattle.std.specs.Prelude.{IfOk, OnOk, OnErr};
+ghost use Rattle.std.specs.List.{list_any};
 ghost use Rattle.wc_text.specs.declared.names.Handle.{Handle as HandleValue};
 ghost use Rattle.wc_nicklist.specs.declared.item.Row.{Row};
 ghost use Rattle.wc_nickdiff.specs.Held.{touches_of};
@@ -11,16 +13,18 @@ ghost use Rattle.wc_board.specs.Answered.{noticed, IsUnchanged};
 ghost use Rattle.wc_board.specs.BoardView.{NoStrayTouches, first_board};
 ghost use Rattle.wc_board.specs.Connections.{connection_link, client_of, unsent_on};
 ghost use Rattle.wc_board.specs.Pushes.{pushed_connection, pushed_bytes, EachPushed};
-ghost use Rattle.wc_board.specs.Served.{told_connection, ConnectionsServed, ConnectionsKept};
+ghost use Rattle.wc_board.specs.Pushes.{touched_number};
+ghost use Rattle.wc_board.specs.Served.{listens, told_connection, ConnectionsServed, ConnectionsKept};
 ghost use Rattle.wc_board.specs.Told.{AreTold, AreTouched};
 
 use crate::clients::Clients;
 use crate::nick_change::change_world;
-use crate::pushes::{forget_nicks, push_counted};
-use crate::telling::tell_counted;
+use crate::pushes::{forget_nicks, push_nicks};
+use crate::spellings::Spellings;
+use crate::telling::tell_notice;
 use std::alloc::Global;
 use std::marker::{Brand, Model};
-use std::sync::ledger::Blank;
+use std::sync::ledger::{Blank, Ledger};
 use wc_model::{Change, ChangeRefused, Notice};
 use wc_nickdiff::Pending;
 use wc_text::{Handle, NoMemory};
@@ -109,15 +113,65 @@ impl Board {
             self.old.connections self.new.connections) }
         ensures unchanged { OnErr result (IsUnchanged self.old self.new) }
     {
+        self.tell_alone::<Brand>(change, Blank::new(1))
+    }
+
+    /// The same where the events that are spelled are counted: at most one is, and none where no
+    /// client asked for it or the change is refused.
+    pub fn tell_counted<L: Ledger>(
+        &mut self,
+        change: Change,
+        spellings: &mut Spellings<L>,
+    ) -> Result<Told, ChangeRefused>
+        requires { IsChangeText change.what }
+        ensures outcome { Outcome self.old.world change self.new.world (noticed result) }
+        ensures touched { OnOk result
+            (AreTouched self.old.world change self.old.pending self.new.pending) }
+        ensures told { IfOk result (λ told. told.to_all ≡ true →
+            self.new.connections ≡ map (told_connection self.new.world told.notice)
+            self.old.connections) }
+        ensures each { IfOk result (λ told.
+            ConnectionsServed told.notice.kind told.notice.buffer.0
+            (told_connection self.new.world told.notice)
+            self.old.connections self.new.connections) }
+        ensures unchanged { OnErr result (IsUnchanged self.old self.new) }
+        ensures once { spellings.new ≤ spellings.old + 1 }
+        ensures none { IfOk result (λ told. list_any (λ connection.
+            listens told.notice.kind told.notice.buffer.0 connection)
+            self.old.connections ≡ false → spellings.new ≡ spellings.old) }
+        ensures refused { OnErr result (spellings.new ≡ spellings.old) }
+    {
         let notice = change_world(self.alloc, &mut self.world, &mut self.pending, change)?;
-        let to_all = tell_counted::<Brand>(
+        let to_all = tell_notice(
             &mut self.clients,
             self.alloc,
             &self.world,
             &notice,
-            Blank::new(1),
+            spellings,
         );
         Ok(Told { notice, to_all })
+    }
+
+    /// The same with a count of its own.
+    fn tell_alone<L: Ledger>(&mut self, change: Change, blank: Blank) -> Result<Told, ChangeRefused>
+        requires text { IsChangeText change.what }
+        requires name { blank.name ≡ L.name }
+        requires parts { blank.parts ≡ L.parts }
+        requires some { 0 < L.parts }
+        ensures outcome { Outcome self.old.world change self.new.world (noticed result) }
+        ensures touched { OnOk result
+            (AreTouched self.old.world change self.old.pending self.new.pending) }
+        ensures told { IfOk result (λ told. told.to_all ≡ true →
+            self.new.connections ≡ map (told_connection self.new.world told.notice)
+            self.old.connections) }
+        ensures each { IfOk result (λ told.
+            ConnectionsServed told.notice.kind told.notice.buffer.0
+            (told_connection self.new.world told.notice)
+            self.old.connections self.new.connections) }
+        ensures unchanged { OnErr result (IsUnchanged self.old self.new) }
+    {
+        let mut spellings: Spellings<L> = Spellings::new(blank);
+        self.tell_counted(change, &mut spellings)
     }
 
     /// Pushes what became of each nicklist since its last push to each client that is open and
@@ -143,16 +197,71 @@ impl Board {
         ensures rows { AreTold self.new.world self.new.pending (rows_at self.new.world) }
         ensures world { self.new.world ≡ self.old.world }
     {
+        self.push_alone::<Brand>(Blank::new(1))
+    }
+
+    /// The same where the events that are spelled are counted: at most one is for each buffer of
+    /// which something was touched.
+    pub fn push_counted<L: Ledger>(&mut self, spellings: &mut Spellings<L>) -> bool
+        ensures told { result ≡ true → (told : ℕ → List Row) →
+            AreTold self.old.world self.old.pending told → self.new.connections
+            ≡ map (pushed_connection self.old.world told (order self.old.world.groups))
+            self.old.connections }
+        ensures sent { result ≡ true → (told : ℕ → List Row) →
+            AreTold self.old.world self.old.pending told → (link : ℕ) →
+            unsent_on link self.new.connections ≡ unsent_on link self.old.connections
+            ++ pushed_bytes self.old.world told (order self.old.world.groups)
+            (at_key connection_link link self.old.connections) }
+        ensures each { (told : ℕ → List Row) → AreTold self.old.world self.old.pending told →
+            EachPushed (order self.old.world.groups)
+            (pushed_connection self.old.world told (order self.old.world.groups))
+            self.old.connections self.new.connections }
+        ensures kept { ConnectionsKept self.old.connections self.new.connections }
+        ensures clients { map client_of self.new.connections ≡ map client_of self.old.connections }
+        ensures forgets { (buffer : HandleValue) → touches_of buffer self.new.pending ≡ [] }
+        ensures rows { AreTold self.new.world self.new.pending (rows_at self.new.world) }
+        ensures world { self.new.world ≡ self.old.world }
+        ensures once { spellings.new
+            ≤ spellings.old + touched_number self.old.pending (order self.old.world.groups) }
+    {
         let _rows = self.world.nicks(CORE);
-        let told = push_counted::<Brand>(
+        let told = push_nicks(
             &mut self.clients,
             self.alloc,
             &self.world,
             &self.pending,
-            Blank::new(1),
+            spellings,
         );
         self.forget_touches();
         told
+    }
+
+    /// The same with a count of its own.
+    fn push_alone<L: Ledger>(&mut self, blank: Blank) -> bool
+        requires name { blank.name ≡ L.name }
+        requires parts { blank.parts ≡ L.parts }
+        requires some { 0 < L.parts }
+        ensures told { result ≡ true → (told : ℕ → List Row) →
+            AreTold self.old.world self.old.pending told → self.new.connections
+            ≡ map (pushed_connection self.old.world told (order self.old.world.groups))
+            self.old.connections }
+        ensures sent { result ≡ true → (told : ℕ → List Row) →
+            AreTold self.old.world self.old.pending told → (link : ℕ) →
+            unsent_on link self.new.connections ≡ unsent_on link self.old.connections
+            ++ pushed_bytes self.old.world told (order self.old.world.groups)
+            (at_key connection_link link self.old.connections) }
+        ensures each { (told : ℕ → List Row) → AreTold self.old.world self.old.pending told →
+            EachPushed (order self.old.world.groups)
+            (pushed_connection self.old.world told (order self.old.world.groups))
+            self.old.connections self.new.connections }
+        ensures kept { ConnectionsKept self.old.connections self.new.connections }
+        ensures clients { map client_of self.new.connections ≡ map client_of self.old.connections }
+        ensures forgets { (buffer : HandleValue) → touches_of buffer self.new.pending ≡ [] }
+        ensures rows { AreTold self.new.world self.new.pending (rows_at self.new.world) }
+        ensures world { self.new.world ≡ self.old.world }
+    {
+        let mut spellings: Spellings<L> = Spellings::new(blank);
+        self.push_counted(&mut spellings)
     }
 
     /// Forgets what was touched, at once for all buffers. That takes no memory; if it did, they

@@ -6,9 +6,11 @@ ghost use Rattle.wc_outside.specs.Keyed.{at_key, without};
 ghost use Rattle.wc_board.specs.Connections.{connection_link, is_open, is_open_at, session_at};
 ghost use Rattle.wc_board.specs.Connections.{unsent_at, gone_at, left_at, new_connection};
 ghost use Rattle.wc_board.specs.Connections.{departure_of};
+ghost use Rattle.wc_board.specs.Hooked.{IsHooked};
 
 use crate::board::Board;
 use crate::connection::{Connection, Departure, connection_place, first_departure, open_count};
+use wc_hooks::HookTable;
 use wc_options::Options;
 use wc_session::Session;
 use wc_text::{Arrival, Cause, LinkId, NoMemory};
@@ -106,5 +108,13 @@ impl Board {
         ensures { result.now ≡ self.now.connections }
     {
         self.clients.as_slice()
+    }
+
+    /// The table of hooks: it has one entry for each client that is open, in the order in which they
+    /// came, and no other. No pass is open in it, and no entry runs.
+    pub fn hooks(&self) -> &HookTable
+        ensures { IsHooked result.now self.now.connections }
+    {
+        self.clients.hooks()
     }
 }

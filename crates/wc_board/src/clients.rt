@@ -10,7 +10,7 @@ ghost use Rattle.wc_relaycmd.specs.Utf8.{RequestIsUtf8};
 ghost use Rattle.wc_board.specs.Answered.{AnsweredAt};
 ghost use Rattle.wc_board.specs.Connections.{connection_link, is_open_at, unsent_at, gone_at};
 ghost use Rattle.wc_board.specs.Connections.{left_at};
-ghost use Rattle.wc_board.specs.Hooked.{relay_row};
+ghost use Rattle.wc_board.specs.Hooked.{relay_row, IsHooked};
 ghost use Rattle.wc_board.specs.Served.{noted_connection, ConnectionsServed};
 ghost use Rattle.wc_board.specs.Services.{kind_of, buffer_of, serve_connection};
 
@@ -101,6 +101,13 @@ impl Clients {
         ensures { result.now ≡ self.now }
     {
         self.connections.as_slice()
+    }
+
+    /// The table of their entries.
+    pub fn hooks(&self) -> &HookTable
+        ensures { IsHooked result.now self.now }
+    {
+        &self.hooks
     }
 
     /// Admits the client of a session, which comes after the others. Where 64 clients are open, or no

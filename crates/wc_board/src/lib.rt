@@ -16,3 +16,4 @@ mod telling;
 pub use board::{Board, Told};
 pub use connection::{Connection, Departure};
 pub use laws::{push_tells_rows, tell_keeps_told};
+pub use spellings::Spellings;

@@ -1,6 +1,6 @@
 //! The pushes of nicklists, and what is forgotten of what was touched.
 
-ghost use Rattle.std.specs.Prelude.{◌≡◌, ◌==◌, ◌&&◌, ◌++◌, ◌+◌, ◌<◌, ◌≤◌, ℕ, List, [], ◌∷◌, true, false, map};
+ghost use Rattle.std.specs.Prelude.{◌≡◌, ◌==◌, ◌&&◌, ◌++◌, ◌+◌, ◌≤◌, ℕ, List, [], ◌∷◌, true, false, map};
 ghost use Rattle.std.specs.Prelude.{if◌then◌else◌};
 ghost use Rattle.std.specs.List.{list_any};
 ghost use Rattle.wc_text.specs.declared.names.Handle.{Handle as HandleValue};
@@ -21,7 +21,7 @@ use crate::clients::Clients;
 use crate::connection::Service;
 use crate::spellings::Spellings;
 use std::alloc::Global;
-use std::sync::ledger::{Blank, Ledger};
+use std::sync::ledger::Ledger;
 use wc_model::EventKind;
 use wc_nickdiff::Pending;
 use wc_text::{Handle, NoMemory};
@@ -61,35 +61,6 @@ pub fn push_nicks<L: Ledger>(
         told &= pushed;
     }
     told
-}
-
-/// The same with a count of its own.
-pub fn push_counted<L: Ledger>(
-    clients: &mut Clients,
-    alloc: Global,
-    world: &World,
-    pending: &Pending,
-    blank: Blank,
-) -> bool
-    requires name { blank.name ≡ L.name }
-    requires parts { blank.parts ≡ L.parts }
-    requires some { 0 < L.parts }
-    ensures told { result ≡ true → (told : ℕ → List Row) → AreTold world.now pending.now told →
-        clients.new ≡ map (pushed_connection world.now told (order world.now.groups))
-        clients.old }
-    ensures sent { result ≡ true → (told : ℕ → List Row) → AreTold world.now pending.now told →
-        (link : ℕ) → unsent_on link clients.new ≡ unsent_on link clients.old
-        ++ pushed_bytes world.now told (order world.now.groups)
-        (at_key connection_link link clients.old) }
-    ensures each { (told : ℕ → List Row) → AreTold world.now pending.now told →
-        EachPushed (order world.now.groups)
-        (pushed_connection world.now told (order world.now.groups))
-        clients.old clients.new }
-    ensures kept { ConnectionsKept clients.old clients.new }
-    ensures clients { map client_of clients.new ≡ map client_of clients.old }
-{
-    let mut spellings: Spellings<L> = Spellings::new(blank);
-    push_nicks(clients, alloc, world, pending, &mut spellings)
 }
 
 /// Pushes what became of the nicklists of the buffers of a group.

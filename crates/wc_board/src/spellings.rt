@@ -49,7 +49,7 @@ impl<L: Ledger> Spellings<L> {
     }
 
     /// Spells the event of a notice, in the world after the change.
-    pub fn of_notice(
+    pub(crate) fn of_notice(
         &mut self,
         alloc: Global,
         world: &World,
@@ -64,7 +64,7 @@ impl<L: Ledger> Spellings<L> {
     }
 
     /// Spells the event of what became of the nicklist of a buffer since it was told.
-    pub fn of_nicks(
+    pub(crate) fn of_nicks(
         &mut self,
         alloc: Global,
         world: &World,

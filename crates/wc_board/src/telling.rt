@@ -1,4 +1,4 @@
-ghost use Rattle.std.specs.Prelude.{◌≡◌, ◌+◌, ◌<◌, ◌≤◌, true, false, map};
+ghost use Rattle.std.specs.Prelude.{◌≡◌, ◌+◌, ◌≤◌, true, false, map};
 ghost use Rattle.std.specs.List.{list_any};
 ghost use Rattle.std.specs.Str.{IsUtf8};
 ghost use Rattle.wc_board.specs.Served.{listens, told_connection, ConnectionsServed};
@@ -7,7 +7,7 @@ use crate::clients::Clients;
 use crate::connection::{Service, some_listens};
 use crate::spellings::Spellings;
 use std::alloc::Global;
-use std::sync::ledger::{Blank, Ledger};
+use std::sync::ledger::Ledger;
 use wc_model::Notice;
 use wc_world::World;
 
@@ -40,25 +40,4 @@ pub fn tell_notice<L: Ledger>(
         return false;
     };
     clients.serve_all(alloc, &Service::Tell(event))
-}
-
-/// The same with a count of its own.
-pub fn tell_counted<L: Ledger>(
-    clients: &mut Clients,
-    alloc: Global,
-    world: &World,
-    notice: &Notice,
-    blank: Blank,
-) -> bool
-    requires text { IsUtf8 notice.now.full_name }
-    requires name { blank.name ≡ L.name }
-    requires parts { blank.parts ≡ L.parts }
-    requires some { 0 < L.parts }
-    ensures told { result ≡ true →
-        clients.new ≡ map (told_connection world.now notice.now) clients.old }
-    ensures each { ConnectionsServed notice.now.kind notice.now.buffer.0
-        (told_connection world.now notice.now) clients.old clients.new }
-{
-    let mut spellings: Spellings<L> = Spellings::new(blank);
-    tell_notice(clients, alloc, world, notice, &mut spellings)
 }

@@ -1,4 +1,4 @@
 use Rattle.wc_board.proofs.board.Board.push.Given as goal
 
-abbrev pub ghosts-push_counted : goal.ghosts-push_counted
-ghosts-push_counted a = record { name = a.blank.name; parts = a.blank.parts }
+abbrev pub ghosts-push_alone : goal.ghosts-push_alone
+ghosts-push_alone a = record { name = a.blank.name; parts = a.blank.parts }

@@ -1,4 +1,4 @@
 use Rattle.wc_board.proofs.board.Board.tell.Given as goal
 
-abbrev pub ghosts-tell_counted : goal.ghosts-tell_counted
-ghosts-tell_counted a = record { name = a.blank.name; parts = a.blank.parts }
+abbrev pub ghosts-tell_alone : goal.ghosts-tell_alone
+ghosts-tell_alone a = record { name = a.blank.name; parts = a.blank.parts }

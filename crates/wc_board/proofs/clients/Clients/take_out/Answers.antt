@@ -1,4 +1,4 @@
-use Rattle.std.proofs.Common.{◌≡◌, ◌<◌, sym, subst, length, List}
+use Rattle.std.proofs.Common.{◌<◌, sym, subst, length, List}
 use Rattle.std.specs.List.{remove}
 use Rattle.wc_hooks.specs.declared.entry.HookId.{HookId}
 use Rattle.wc_board.specs.declared.connection.Connection.{Connection}
