@@ -196,6 +196,8 @@ impl Board {
         ensures forgets { (buffer : HandleValue) → touches_of buffer self.new.pending ≡ [] }
         ensures rows { AreTold self.new.world self.new.pending (rows_at self.new.world) }
         ensures world { self.new.world ≡ self.old.world }
+        ensures idle { ((buffer : HandleValue) → touches_of buffer self.old.pending ≡ []) →
+            (result ≡ true) × (self.new.connections ≡ self.old.connections) }
     {
         self.push_alone::<Brand>(Blank::new(1))
     }
@@ -223,6 +225,8 @@ impl Board {
         ensures world { self.new.world ≡ self.old.world }
         ensures once { spellings.new
             ≤ spellings.old + touched_number self.old.pending (order self.old.world.groups) }
+        ensures idle { ((buffer : HandleValue) → touches_of buffer self.old.pending ≡ []) →
+            (result ≡ true) × (self.new.connections ≡ self.old.connections) }
     {
         let _rows = self.world.nicks(CORE);
         let told = push_nicks(
@@ -259,6 +263,8 @@ impl Board {
         ensures forgets { (buffer : HandleValue) → touches_of buffer self.new.pending ≡ [] }
         ensures rows { AreTold self.new.world self.new.pending (rows_at self.new.world) }
         ensures world { self.new.world ≡ self.old.world }
+        ensures idle { ((buffer : HandleValue) → touches_of buffer self.old.pending ≡ []) →
+            (result ≡ true) × (self.new.connections ≡ self.old.connections) }
     {
         let mut spellings: Spellings<L> = Spellings::new(blank);
         self.push_counted(&mut spellings)

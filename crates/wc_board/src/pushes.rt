@@ -52,6 +52,8 @@ pub fn push_nicks<L: Ledger>(
     ensures clients { map client_of clients.new ≡ map client_of clients.old }
     ensures once { spellings.new
         ≤ spellings.old + touched_number pending.now (order world.now.groups) }
+    ensures idle { ((buffer : HandleValue) → touches_of buffer pending.now ≡ []) →
+        (result ≡ true) × (clients.new ≡ clients.old) }
 {
     // Once for all buffers: their rows are rows that a nicklist can hold.
     let _held = world.nicks(Handle(1));
@@ -85,6 +87,8 @@ fn push_group<L: Ledger>(
     ensures clients { map client_of clients.new ≡ map client_of clients.old }
     ensures once { spellings.new
         ≤ spellings.old + touched_number pending.now (numbers group.now) }
+    ensures idle { ((buffer : HandleValue) → touches_of buffer pending.now ≡ []) →
+        (result ≡ true) × (clients.new ≡ clients.old) }
 {
     let mut told = true;
     for buffer in group {
@@ -125,6 +129,8 @@ fn push_buffer<L: Ledger>(
     ensures clients { map client_of clients.new ≡ map client_of clients.old }
     ensures once { spellings.new
         ≤ spellings.old + touched_number pending.now (buffer.0 ∷ []) }
+    ensures idle { touches_of buffer pending.now ≡ [] →
+        (result ≡ true) × (clients.new ≡ clients.old) }
 {
     if !is_touched(pending, buffer) {
         return true;

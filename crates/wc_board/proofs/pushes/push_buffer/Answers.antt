@@ -1,4 +1,4 @@
-use Rattle.std.proofs.Common.{ap, sym, subst, ◌∙◌, ◌∷◌, [], List, map, arith}
+use Rattle.std.proofs.Common.{◌≡◌, ℕ, ◌<◌, true, refl, length, nat_lt, false, ap, sym, subst, ◌∙◌, ◌∷◌, [], List, map, arith}
 use Rattle.wc_model.specs.declared.notice.EventKind.TheVariants.{NicklistDiff}
 use Rattle.wc_board.specs.declared.connection.Connection.{Connection}
 use Rattle.wc_board.specs.Connections.{client_of}
@@ -8,7 +8,12 @@ use Rattle.wc_board.proofs.EventLemmas.{served_starving}
 use Rattle.wc_board.proofs.PushConnections.{untouched_push, all_pushed, event_kept, served_clients, starved_clients, starved_all, ConnectionsKept-refl}
 use Rattle.wc_board.proofs.TouchCounts.{touched_one}
 use Rattle.wc_board.proofs.PushEach.{each_map, each_heard, each_starved}
+use Rattle.std.proofs.lemmas.Bool.{false≢true}
 use Rattle.wc_board.proofs.pushes.push_buffer.Goals as goal
+
+-- nothing is touched where there are no touches
+untouched : {A : Type 0} (touches : List A) → touches ≡ [] → nat_lt 0 (length touches) ≡ true → ⊥
+untouched touches none some = false≢true (sym (ap (λ all. nat_lt 0 (length all)) none) ∙ some)
 
 pub returns-then-not-is_touched-clause-told : goal.returns-then-not-is_touched-clause-told
 returns-then-not-is_touched-clause-told g c = λ t there told was.
@@ -78,3 +83,15 @@ returns-in-Err-clause-once g c =
     let one = touched_one c.args.pending.now c.args.buffer.0 (sym c.is_touched.ensures.exact ∙ c.if-not-is_touched.false) in
     let counted = c.of_nicks.ensures.count in
     omega (arith, one, counted)
+
+pub returns-then-not-is_touched-clause-idle : goal.returns-then-not-is_touched-clause-idle
+returns-then-not-is_touched-clause-idle g c = λ none. (refl, refl)
+
+pub returns-in-Ok-Some-clause-idle : goal.returns-in-Ok-Some-clause-idle
+returns-in-Ok-Some-clause-idle g c = λ none. absurd (untouched _ none (sym c.is_touched.ensures.exact ∙ c.if-not-is_touched.false))
+
+pub returns-in-Ok-None-clause-idle : goal.returns-in-Ok-None-clause-idle
+returns-in-Ok-None-clause-idle g c = λ none. absurd (untouched _ none (sym c.is_touched.ensures.exact ∙ c.if-not-is_touched.false))
+
+pub returns-in-Err-clause-idle : goal.returns-in-Err-clause-idle
+returns-in-Err-clause-idle g c = λ none. absurd (untouched _ none (sym c.is_touched.ensures.exact ∙ c.if-not-is_touched.false))

@@ -1,4 +1,4 @@
-use Rattle.std.proofs.Common.{◌≡◌, ◌+◌, arith, refl, sym, ap, subst, ◌∙◌, ◌∷◌, [], List, map, drop, get_or}
+use Rattle.std.proofs.Common.{◌≡◌, ◌+◌, arith, refl, sym, ap, subst, ◌∙◌, ◌∷◌, ◌&&◌, [], List, map, drop, get_or}
 use Rattle.std.proofs.lemmas.List.{drop_more}
 use Rattle.wc_text.specs.declared.names.Handle.{Handle}
 use Rattle.wc_world.specs.Near.{numbers}
@@ -11,7 +11,7 @@ use Rattle.wc_board.proofs.PushEach.{each_first, each_map}
 use Rattle.wc_board.proofs.pushes.push_group.Goals as goal
 
 pub loop-buffer-init : goal.loop-buffer-init
-loop-buffer-init g c = record { told = λ t there told are. refl; each = λ there told are final pushed. pushed; there = λ there. there; kept = ConnectionsKept-refl c.args.clients.now; clients = refl; once = omega arith }
+loop-buffer-init g c = record { told = λ t there told are. refl; each = λ there told are final pushed. pushed; there = λ there. there; kept = ConnectionsKept-refl c.args.clients.now; clients = refl; once = omega arith; idle = λ none. (refl, refl) }
 
 pub loop-buffer-preserved : goal.loop-buffer-preserved
 loop-buffer-preserved g c =
@@ -41,6 +41,10 @@ loop-buffer-preserved g c =
           let pending = c.args.pending.now in
           let parts : touched_number pending (numbers (drop i group)) ≡ touched_number pending (h.0 ∷ []) + touched_number pending rest = ap (λ hs. touched_number pending (numbers hs)) next ∙ touched_first pending h.0 rest in
           omega (arith, parts, pushed.once, holds.once);
+      idle = λ none.
+          let before = holds.idle none in
+          let now = pushed.idle (none h) in
+          (ap (λ t. t && c.push_buffer-pushed.result) before.0 ∙ now.0, now.1 ∙ before.1);
     }
 
 pub returns-clause-told : goal.returns-clause-told

@@ -1,4 +1,6 @@
-use Rattle.std.proofs.Common.{◌≡◌, ℕ, ◌+◌, ◌≤◌, true, List, map, drop}
+use Rattle.std.proofs.Common.{◌≡◌, ℕ, ◌+◌, ◌≤◌, true, List, [], map, drop}
+use Rattle.wc_text.specs.declared.names.Handle.{Handle}
+use Rattle.wc_nickdiff.specs.Held.{touches_of}
 use Rattle.wc_nicklist.specs.declared.item.Row.{Row}
 use Rattle.wc_world.specs.Near.{numbers}
 use Rattle.wc_board.specs.declared.connection.Connection.{Connection}
@@ -16,4 +18,5 @@ invariant-loop-buffer g l = record {
   kept : ConnectionsKept l.initial.clients l.clients;
   clients : map client_of l.clients ≡ map client_of l.initial.clients;
   once : l.spellings + touched_number l.pending (numbers (drop l.buffer-index l.group)) ≤ l.initial.spellings + touched_number l.pending (numbers l.group);
+  idle : ((buffer : Handle) → touches_of buffer l.pending ≡ []) → (l.told ≡ true) × (l.clients ≡ l.initial.clients);
 }

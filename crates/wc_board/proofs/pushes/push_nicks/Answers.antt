@@ -1,4 +1,4 @@
-use Rattle.std.proofs.Common.{rules, arith, ◌≡◌, ◌+◌, ℕ, refl, sym, ap, subst, ◌∙◌, ◌++◌, ◌∷◌, [], List, map}
+use Rattle.std.proofs.Common.{rules, arith, ◌≡◌, ◌+◌, ℕ, refl, sym, ap, subst, ◌∙◌, ◌++◌, ◌∷◌, ◌&&◌, [], List, map}
 use Rattle.wc_text.specs.declared.names.Handle.{Handle}
 use Rattle.wc_buffers.specs.Kept.{handles}
 use Rattle.wc_model.specs.Order.{order}
@@ -28,6 +28,7 @@ loop-group-init g c =
       kept = ConnectionsKept-refl c.args.clients.now;
       clients = refl;
       once = (let same = ap (touched_number c.args.pending.now) order in omega (arith, same));
+      idle = λ none. (refl, refl);
     }
 
 pub loop-group-preserved : goal.loop-group-preserved
@@ -56,6 +57,10 @@ loop-group-preserved g c =
           let pending = c.args.pending.now in
           let parts : touched_number pending (all_numbers c.loop-group.group-iterator) ≡ touched_number pending (numbers group) + touched_number pending rest = ap (λ groups. touched_number pending (all_numbers groups)) next ∙ touched_more pending (numbers group) rest in
           omega (arith, parts, pushed.once, holds.once);
+      idle = λ none.
+          let before = holds.idle none in
+          let now = pushed.idle none in
+          (ap (λ t. t && c.push_group-pushed.result) before.0 ∙ now.0, now.1 ∙ before.1);
     }
 
 pub returns-clause-told : goal.returns-clause-told

@@ -1,4 +1,6 @@
-use Rattle.std.proofs.Common.{◌≡◌, ℕ, ◌+◌, ◌≤◌, true, List, map}
+use Rattle.std.proofs.Common.{◌≡◌, ℕ, ◌+◌, ◌≤◌, true, List, [], map}
+use Rattle.wc_text.specs.declared.names.Handle.{Handle}
+use Rattle.wc_nickdiff.specs.Held.{touches_of}
 use Rattle.wc_nicklist.specs.declared.item.Row.{Row}
 use Rattle.wc_model.specs.Order.{order}
 use Rattle.wc_world.specs.Near.{all_numbers}
@@ -18,4 +20,5 @@ invariant-loop-group g l = record {
   kept : ConnectionsKept l.initial.clients l.clients;
   clients : map client_of l.clients ≡ map client_of l.initial.clients;
   once : l.spellings + touched_number l.pending (all_numbers l.group-iterator) ≤ l.initial.spellings + touched_number l.pending (order l.world.groups);
+  idle : ((buffer : Handle) → touches_of buffer l.pending ≡ []) → (l.told ≡ true) × (l.clients ≡ l.initial.clients);
 }

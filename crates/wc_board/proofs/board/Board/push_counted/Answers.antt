@@ -15,3 +15,6 @@ pub returns-clause-each : goal.returns-clause-each
 returns-clause-each g c =
     let w = c.self.inside.world in
     rw (← c.self.view_is) (λ rows are. (let P : List Connection → Type 0 = λ new. EachPushed (order w.groups) (pushed_connection w rows (order w.groups)) c.self.inside.clients new in subst P (sym c.forget_touches.ensures.connections) (c.push_nicks-told.ensures.each rows are)))
+
+pub returns-clause-idle : goal.returns-clause-idle
+returns-clause-idle g c = rw (← c.self.view_is) (λ none. (let is = c.push_nicks-told.ensures.idle none in (is.0, c.forget_touches.ensures.connections ∙ is.1)))
