@@ -2,6 +2,7 @@ ghost use Rattle.std.specs.Prelude.{◌≡◌, ◌≢◌, ◌⊎◌, ◌∷◌, 
 ghost use Rattle.std.specs.Prelude.{◌<◌, ◌++◌, [], min, true, false, Some, None};
 ghost use Rattle.std.specs.Prelude.{IfOk, IfSome, map, string_bytes};
 ghost use Rattle.wc_outside.specs.Keyed.{at_key, without};
+ghost use Rattle.wc_relaycmd.specs.Grammar.{HasCommand};
 ghost use Rattle.wc_relaycmd.specs.Utf8.{RequestIsUtf8};
 ghost use Rattle.wc_session.specs.Served.{OnServed, OnNoMemory};
 ghost use Rattle.wc_core.specs.Events.{Start, Tick, Arrives, Line as LineCame};
@@ -233,9 +234,11 @@ impl Core {
 
     /// Serves a line of a link: that of an open client, where it is a request, or else that of a
     /// server, where it is a message. A client that finds no memory for its reply or an event leaves
-    /// with that cause.
+    /// with that cause. A line of a client that is not UTF-8 or has no command's word takes no memory.
     pub fn relay_line(&mut self, link: LinkId, line: &[u8])
-        ensures { Does self.old self.new (λ state. step state (LineCame link.0 line.now)) }
+        ensures does { Does self.old self.new (λ state. step state (LineCame link.0 line.now)) }
+        ensures stray { is_open_at (at_key connection_link link.0 self.old.connections) ≡ true →
+            ¬ (HasCommand line.now) → self.new ≡ self.old }
     {
         if self.board.is_open(link) {
             self.client_line(link, line);
@@ -246,8 +249,9 @@ impl Core {
 
     /// Serves a line of a client, where the client is open and the line is a request.
     fn client_line(&mut self, link: LinkId, line: &[u8])
-        ensures { Does self.old self.new
+        ensures does { Does self.old self.new
             (λ state. line_step state line.now (at_key client_link link.0 state.clients)) }
+        ensures stray { ¬ (HasCommand line.now) → self.new ≡ self.old }
     {
         if !self.board.is_open(link) {
             return;
