@@ -1,6 +1,8 @@
 ghost use Rattle.std.specs.Prelude.{◌≡◌, ◌≢◌, ◌⊎◌, ◌∷◌, ◌≤◌, ◌^◌, ◌-◌, ◌+◌};
 ghost use Rattle.std.specs.Prelude.{◌<◌, ◌++◌, [], min, true, false, Some, None};
 ghost use Rattle.std.specs.Prelude.{IfOk, IfSome, map, string_bytes};
+ghost use Rattle.wc_text.specs.declared.names.Handle.{Handle as HandleValue};
+ghost use Rattle.wc_nickdiff.specs.Held.{touches_of};
 ghost use Rattle.wc_outside.specs.Keyed.{at_key, without};
 ghost use Rattle.wc_relaycmd.specs.Grammar.{HasCommand};
 ghost use Rattle.wc_relaycmd.specs.Utf8.{RequestIsUtf8};
@@ -162,6 +164,7 @@ impl Core {
     }
 
     /// Sets the last moment, in milliseconds since 1970, and pushes what became of the nicklists.
+    /// Where nothing of them was touched that takes no memory.
     pub fn tick(&mut self, moment: u64)
         ensures does { Does self.old self.new (λ state. step state (Tick moment)) }
         ensures stays { self.new ≡ record self.old {
@@ -170,6 +173,8 @@ impl Core {
           moment = moment;
           starved = self.new.starved;
         } }
+        ensures idle { ((buffer : HandleValue) → touches_of buffer self.old.pending ≡ []) →
+            self.new ≡ record self.old { pending = self.new.pending; moment = moment } }
     {
         self.moment = moment;
         self.push();
@@ -183,6 +188,8 @@ impl Core {
           connections = self.new.connections;
           starved = self.new.starved;
         } }
+        ensures idle { ((buffer : HandleValue) → touches_of buffer self.old.pending ≡ []) →
+            self.new ≡ record self.old { pending = self.new.pending } }
     {
         if self.board.push() {
             return;
