@@ -35,6 +35,7 @@ use Rattle.wc_board.proofs.PushEach.{open_number, number_more, not_more, none_le
 use Rattle.wc_text.specs.declared.names.Cause.TheVariants.{Surplus}
 use Rattle.wc_servers.specs.Seats.{ServersView, used_up}
 use Rattle.wc_core.specs.CoreView.{CoreView}
+use Rattle.wc_core.specs.BoardSteps.{board_of}
 use Rattle.wc_core.specs.Inputs.{MakesChange, push_before, AnswersRequestOf}
 use Rattle.wc_core.specs.Limits.{client_limit}
 use Rattle.wc_core.specs.Step.{client_link, no_step, push_step, request_step, line_step, loss_step, arrival_step}
@@ -43,9 +44,6 @@ use Rattle.wc_core.proofs.CoreLemmas.{came-surplus, starved_only, lost-done, cam
 use Rattle.wc_core.proofs.DidLemmas.{Does-stays}
 use Rattle.wc_core.proofs.PushLemmas.{IsPushedCore, push-done}
 use Rattle.wc_core.proofs.ReplyLemmas.{reply_fits}
-
-abbrev pub board_of : CoreView → BoardView
-board_of core = record { world = core.world; pending = core.pending; connections = core.connections }
 
 -- the core with this board and count
 abbrev pub with_board : CoreView → BoardView → ℕ → CoreView
@@ -62,12 +60,13 @@ lost-by old board k why e = let P : BoardView → Type 0 = λ b. Does old (with_
 -- ---- pushes
 
 -- the board made its pushes, or want of memory was counted
-pub push-by : (old : CoreView) (board : BoardView) (n : ℕ) → board.world ≡ old.world → ConnectionsKept old.connections board.connections → AreTold board.world board.pending (rows_at board.world)
+pub push-by : (old : CoreView) (board : BoardView) (n : ℕ) → IsPushed (board_of old) board
     → ((n ≡ old.starved) × ((told : ℕ → List Row) → AreTold old.world old.pending told → board.connections ≡ map (pushed_connection old.world told (order old.world.groups)) old.connections)) ⊎ ((n ≡ min (old.starved + 1) (2 ^ 64 - 1)) × (old.starved ≤ n)) → Does old (with_board old board n) push_step
-push-by old board n world kept rows counted = push-done old (with_board old board n) (record {
-  stays = ap (λ (world : World). record old { world = world; pending = board.pending; connections = board.connections; starved = n }) world;
-  kept = kept;
-  rows = rows;
+push-by old board n is counted = push-done old (with_board old board n) (record {
+  board = is;
+  stays = ap (λ (world : World). record old { world = world; pending = board.pending; connections = board.connections; starved = n }) is.world;
+  kept = is.kept;
+  rows = is.rows;
   rises = rises counted;
   all = all counted;
 }) where
@@ -84,6 +83,7 @@ push-by old board n world kept rows counted = push-done old (with_board old boar
 
 pushed-core : (old : CoreView) (between : BoardView) (n : ℕ) → IsPushed (board_of old) between → Counted old between.connections n → IsPushedCore old (with_board old between n)
 pushed-core old between n is counted = record {
+  board = is;
   stays = ap (λ (world : World). record old { world = world; pending = between.pending; connections = between.connections; starved = n }) is.world;
   kept = is.kept;
   rows = is.rows;
@@ -276,12 +276,12 @@ answers-starved old board new k request result is counts rises =
 pub answers-all : (old : CoreView) (board : BoardView) (k : ℕ) (request : Request) (result : Outcome) → AnswersAfterPushes k old.options request result (board_of old) board → open_number old.connections ≤ open_number board.connections → AnswersRequestOf k request result old (with_board old board old.starved)
 answers-all old board k request result is least = answers old board old.starved k request result is (inl (refl, least))
 
-pub push-starved : (old : CoreView) (board : BoardView) (new : CoreView) → board.world ≡ old.world → ConnectionsKept old.connections board.connections → AreTold board.world board.pending (rows_at board.world) → new ≡ record (with_board old board old.starved) { starved = min (old.starved + 1) (2 ^ 64 - 1) } → old.starved ≤ new.starved
+pub push-starved : (old : CoreView) (board : BoardView) (new : CoreView) → IsPushed (board_of old) board → new ≡ record (with_board old board old.starved) { starved = min (old.starved + 1) (2 ^ 64 - 1) } → old.starved ≤ new.starved
     → Does old new push_step
-push-starved old board new world kept rows counts rises =
+push-starved old board new is counts rises =
     let count : new.starved ≡ min (old.starved + 1) (2 ^ 64 - 1) = ap (λ (c : CoreView). c.starved) counts in
     let P : CoreView → Type 0 = λ new. Does old new push_step in
-    subst P (sym counts) (push-by old board (min (old.starved + 1) (2 ^ 64 - 1)) world kept rows (inr (refl, omega (arith, count, rises))))
+    subst P (sym counts) (push-by old board (min (old.starved + 1) (2 ^ 64 - 1)) is (inr (refl, omega (arith, count, rises))))
 
 pub came-by : (told : Beside) (old : CoreView) (board : BoardView) (servers : ServersView) (link : LinkId) (nonce : List ℕ) → length (filter (λ connection. is_open connection) old.connections) < client_limit old.options → servers ≡ used_up link.0 old.servers
     → board ≡ record (board_of old) { connections = old.connections ++ new_connection old.options link nonce ∷ [] } → AdmitsUnlessStarved told link.0 old (with_board (record old { servers = servers }) board old.starved) None (arrival_step (state_of old told) link.0 nonce)
@@ -301,9 +301,9 @@ pub changed-all : (old : CoreView) (board : BoardView) (change : Change) (n : No
     → board.connections ≡ map (told_connection board.world n) old.connections → MakesChange old change (with_board old board old.starved)
 changed-all old board change n accepted touched are stray told = changes-all old (with_board old board old.starved) change n refl accepted touched are stray told
 
-pub changed-some : (old : CoreView) (board : BoardView) (new : CoreView) (change : Change) (n : Notice) → ConnectionsServed n.kind n.buffer.0 (told_connection board.world n) old.connections board.connections → new ≡ record (with_board old board old.starved) { starved = min (old.starved + 1) (2 ^ 64 - 1) } → old.starved ≤ new.starved
+pub changed-some : (old : CoreView) (board : BoardView) (new : CoreView) (change : Change) (n : Notice) → Accepted old.world change board.world n → AreTouched old.world change old.pending board.pending → ConnectionsServed n.kind n.buffer.0 (told_connection board.world n) old.connections board.connections → new ≡ record (with_board old board old.starved) { starved = min (old.starved + 1) (2 ^ 64 - 1) } → old.starved ≤ new.starved
     → MakesChange old change new
-changed-some old board new change n served counts rises = changes-some old (with_board old board old.starved) new change n (told_connection board.world n) refl served counts rises
+changed-some old board new change n accepted touched served counts rises = changes-some old (with_board old board old.starved) new change n (told_connection board.world n) accepted touched refl served counts rises
 
 -- what holds where a call did not fail
 pub on_ok : {A E : Type 0} (r : Result A E) (P : Type 0) → is_err r ≡ false → OnOk r P → P

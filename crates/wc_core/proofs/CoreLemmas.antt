@@ -19,6 +19,8 @@ use Rattle.wc_session.specs.Reply.{Answer, reply_of}
 use Rattle.wc_session.specs.Served.{OnServed, OnNoMemory, AnswersRequest}
 use Rattle.wc_board.specs.declared.connection.Connection.{Connection}
 use Rattle.wc_core.specs.CoreView.{CoreView}
+use Rattle.wc_core.specs.BoardSteps.{board_of, Tells, Answers, Loses, BoardSteps}
+use Rattle.wc_core.proofs.BoardStepLemmas.{steps-one}
 use Rattle.wc_text.specs.declared.names.Handle.{Handle}
 use Rattle.wc_buffers.specs.Calls.{EntryGroups}
 use Rattle.wc_model.specs.declared.change.Change.{Change}
@@ -65,7 +67,7 @@ pub starves-only : (old new : CoreView) → new ≡ record old { starved = min (
 starves-only old new e rises =
     let count : new.starved ≡ min (old.starved + 1) (2 ^ 64 - 1) = ap (λ (c : CoreView). c.starved) e in
     record {
-      keeps = KeepsClients-connections old new (ap (λ (c : CoreView). c.connections) e) rises (saves-as old new (record old { starved = min (old.starved + 1) (2 ^ 64 - 1) }) e refl refl) (servers-same old new (ap (λ (c : CoreView). c.servers) e)) (ap (λ (c : CoreView). c.verdicts) e);
+      keeps = KeepsClients-connections old new (ap board_of e) rises (saves-as old new (record old { starved = min (old.starved + 1) (2 ^ 64 - 1) }) e refl refl) (servers-same old new (ap (λ (c : CoreView). c.servers) e)) (ap (λ (c : CoreView). c.verdicts) e);
       causes = λ distinct j. inl (ap (λ (c : CoreView). leaving_on j c.connections) e);
       counted = λ below. omega arith;
     }
@@ -81,21 +83,21 @@ done-starved old mid new step done e rises = λ told.
     let count : new.starved ≡ min (mid.starved + 1) (2 ^ 64 - 1) = ap (λ (c : CoreView). c.starved) e in
     let P : ℕ → List Connection → Type 0 = λ j connections. LeavesBy (leaving_on j old.connections) (close_of j (step (state_of old told)).acts) (leaving_on j connections) in
     record {
-      keeps = KeepsClients-trans old mid new f.keeps (KeepsClients-connections mid new connections rises (saves-as mid new (record mid { starved = min (mid.starved + 1) (2 ^ 64 - 1) }) e refl refl) (servers-same mid new (ap (λ (c : CoreView). c.servers) e)) (ap (λ (c : CoreView). c.verdicts) e));
+      keeps = KeepsClients-trans old mid new f.keeps (KeepsClients-connections mid new (ap board_of e) rises (saves-as mid new (record mid { starved = min (mid.starved + 1) (2 ^ 64 - 1) }) e refl refl) (servers-same mid new (ap (λ (c : CoreView). c.servers) e)) (ap (λ (c : CoreView). c.verdicts) e));
       causes = λ distinct j. subst (P j) (sym connections) (f.causes distinct j);
       does = λ same below distinct were agrees. (let more = f.keeps.rises in absurd (omega arith));
     }
 
 -- ---- notices
 
-told-all : (told : Beside) (told' : Told) (old : CoreView) (world : World) (pending : List OfBuffer) (n : Notice) (new : CoreView) → new ≡ told_to_all old world pending n → (WereTold old told → WereTold (told_to_all old world pending n) (record told { rows = told' }))
+told-all : (told : Beside) (told' : Told) (old : CoreView) (world : World) (pending : List OfBuffer) (n : Notice) (new : CoreView) → new ≡ told_to_all old world pending n → BoardSteps (board_of old) (board_of (told_to_all old world pending n)) → (WereTold old told → WereTold (told_to_all old world pending n) (record told { rows = told' }))
     → FollowsUnlessStarved told old new (tell_all_step (state_of old told) told' world n)
-told-all told told' old world pending n new e were =
+told-all told told' old world pending n new e steps were =
     let step = tell_all_step (state_of old told) told' world n in
     let P : CoreView → Type 0 = λ c. FollowsUnlessStarved told old c step in
     subst P (sym e)
     (FollowsUnlessStarved-exact told old (told_to_all old world pending n) step
-    (KeepsClients-told old (told_to_all old world pending n) (served_kept world n old.connections (map (told_connection world n) old.connections) (served_map n.kind n.buffer.0 (told_connection world n) old.connections)) (omega arith) (inl (refl, refl)) (ServersKeep-refl old.servers) refl)
+    (KeepsClients-told old (told_to_all old world pending n) steps (served_kept world n old.connections (map (told_connection world n) old.connections) (served_map n.kind n.buffer.0 (told_connection world n) old.connections)) (omega arith) (inl (refl, refl)) (ServersKeep-refl old.servers) refl)
     (λ distinct. told-left told told' old world n) (λ distinct before. Follows-told told told' old world pending n distinct (were before)))
 
 -- the board made a change, and told it to all whom its notice is for
@@ -108,6 +110,9 @@ changes-all old new change n e accepted touched are stray told = inl (accepted.a
 
     whole : new ≡ told_to_all old new.world new.pending n
     whole = e ∙ ap (λ (connections : List Connection). record old { world = new.world; pending = new.pending; connections = connections }) told
+
+    steps : BoardSteps (board_of old) (board_of (told_to_all old new.world new.pending n))
+    steps = steps-one (board_of old) (board_of (told_to_all old new.world new.pending n)) (Tells (record { change = change; notice = n; accepted = accepted; touched = touched; each = served_map n.kind n.buffer.0 (told_connection new.world n) old.connections }))
 
     rows' : Beside → Told
     rows' rows = told_after old.world change.buffer change.what rows.rows
@@ -122,19 +127,19 @@ changes-all old new change n e accepted touched are stray told = inl (accepted.a
     made rows =
         let P : World → Type 0 = λ w. FollowsUnlessStarved rows old new (tell_all_step (state_of old rows) (rows' rows) w n) in
         let Q : Notice → Type 0 = λ n. FollowsUnlessStarved rows old new (tell_all_step (state_of old rows) (rows' rows) following n) in
-        subst Q accepted.notice (subst P accepted.after (told-all rows (rows' rows) old new.world new.pending n new whole (were rows)))
+        subst Q accepted.notice (subst P accepted.after (told-all rows (rows' rows) old new.world new.pending n new whole steps (were rows)))
 
 -- someone found no memory for it
-pub changes-some : (old mid new : CoreView) (change : Change) (n : Notice) (service : Connection → Connection) → mid ≡ record old { world = mid.world; pending = mid.pending; connections = mid.connections } → ConnectionsServed n.kind n.buffer.0 (told_connection mid.world n) old.connections mid.connections
+pub changes-some : (old mid new : CoreView) (change : Change) (n : Notice) (service : Connection → Connection) → Accepted old.world change mid.world n → AreTouched old.world change old.pending mid.pending → mid ≡ record old { world = mid.world; pending = mid.pending; connections = mid.connections } → ConnectionsServed n.kind n.buffer.0 (told_connection mid.world n) old.connections mid.connections
     → new ≡ record mid { starved = min (mid.starved + 1) (2 ^ 64 - 1) } → mid.starved ≤ new.starved → MakesChange old change new
-changes-some old mid new change n service e served counts rises =
+changes-some old mid new change n service accepted touched e served counts rises =
     let kept : ConnectionsKept old.connections mid.connections = served_kept mid.world n old.connections mid.connections served in
     let same : mid.starved ≡ old.starved = ap (λ (c : CoreView). c.starved) e in
     let count : new.starved ≡ min (mid.starved + 1) (2 ^ 64 - 1) = ap (λ (c : CoreView). c.starved) counts in
     let P : List Connection → Type 0 = λ connections. ConnectionsKept old.connections connections in
     let now : ConnectionsKept old.connections new.connections = subst P (sym (ap (λ (c : CoreView). c.connections) counts)) kept in
     inr (record {
-      keeps = KeepsClients-told old new now (omega (arith, same, rises)) (KeepsSaved-trans old mid new (saves-as old mid (record old { world = mid.world; pending = mid.pending; connections = mid.connections }) e refl refl) (saves-as mid new (record mid { starved = min (mid.starved + 1) (2 ^ 64 - 1) }) counts refl refl)) (servers-same old new (ap (λ (c : CoreView). c.servers) counts ∙ ap (λ (c : CoreView). c.servers) e)) (ap (λ (c : CoreView). c.verdicts) counts ∙ ap (λ (c : CoreView). c.verdicts) e);
+      keeps = KeepsClients-told old new (subst (BoardSteps (board_of old)) (sym (ap board_of counts)) (steps-one (board_of old) (board_of mid) (Tells (record { change = change; notice = n; accepted = accepted; touched = touched; each = served })))) now (omega (arith, same, rises)) (KeepsSaved-trans old mid new (saves-as old mid (record old { world = mid.world; pending = mid.pending; connections = mid.connections }) e refl refl) (saves-as mid new (record mid { starved = min (mid.starved + 1) (2 ^ 64 - 1) }) counts refl refl)) (servers-same old new (ap (λ (c : CoreView). c.servers) counts ∙ ap (λ (c : CoreView). c.servers) e)) (ap (λ (c : CoreView). c.verdicts) counts ∙ ap (λ (c : CoreView). c.verdicts) e);
       causes = λ distinct j. ConnectionsKept-causes j old.connections new.connections now;
       counted = λ below. omega arith;
     })
@@ -193,13 +198,18 @@ does-resolved old new buffer typed r e done = λ told.
 open_of : (o : Option Connection) (s : Connection) → o ≡ Some s → is_open_at o ≡ true → is_open s ≡ true
 open_of o s at sits = sym (ap is_open_at at) ∙ sits
 
+-- the board from which an open client leaves
+left_board : (old : CoreView) (k : ℕ) (s : Connection) (why : Cause) → at_key connection_link k old.connections ≡ Some s → is_open s ≡ true
+    → record (board_of old) { connections = put_at connection_link k (record { session = s.session; leaving = Some why }) old.connections } ≡ record (board_of old) { connections = left_at k why old.connections (at_key connection_link k old.connections) }
+left_board old k s why at sits = sym (ap (λ (o : Option Connection). record (board_of old) { connections = left_at k why old.connections o }) at ∙ ap (λ (t : Bool). record (board_of old) { connections = left_if t k why old.connections s }) sits)
+
 -- the client of a link is marked as leaving
 leave-put : (old : CoreView) (k : ℕ) (s : Connection) (why : Cause) → at_key connection_link k old.connections ≡ Some s → is_open s ≡ true
     → Does old (record old { connections = put_at connection_link k (record { session = s.session; leaving = Some why }) old.connections }) (λ state. leave_step state k why)
 leave-put old k s why at sits = λ told.
     let y : Connection = record { session = s.session; leaving = Some why } in
     FollowsUnlessStarved-exact told old (record old { connections = put_at connection_link k y old.connections }) (leave_step (state_of old told) k why)
-    (KeepsClients-put old k s y at sits (at_key-key connection_link k old.connections s at)) (λ distinct j. leave-left told old k s why j at sits)
+    (KeepsClients-put old k s y (steps-one (board_of old) (record (board_of old) { connections = put_at connection_link k y old.connections }) (Loses (record { link = k; cause = why; put = left_board old k s why at sits }))) at sits (at_key-key connection_link k old.connections s at)) (λ distinct j. leave-left told old k s why j at sits)
     (λ distinct were. Follows-leave told old k s why distinct at sits were)
 
 pub starve-at : (old mid new : CoreView) (k : ℕ) → Does old mid (λ state. loss_step state k NoMemory (at_key client_link k state.clients)) → mid.starved ≡ old.starved → new ≡ record mid { starved = min (mid.starved + 1) (2 ^ 64 - 1) } → mid.starved ≤ new.starved → RanOutOfMemory old new
@@ -211,7 +221,7 @@ starve-at old mid new k done same e rises =
           let P : List Connection → Type 0 = λ connections. StaysOrStarves (leaving_on j old.connections) (leaving_on j connections) in
           subst P (sym (ap (λ (c : CoreView). c.connections) e))
           (lost-starves j k state (at_key client_link k (clients_of old.connections)) (leaving_on j old.connections) (leaving_on j mid.connections) (lost.causes distinct j));
-      keeps = KeepsClients-trans old mid new lost.keeps (KeepsClients-connections mid new (ap (λ (c : CoreView). c.connections) e) rises (saves-as mid new (record mid { starved = min (mid.starved + 1) (2 ^ 64 - 1) }) e refl refl) (servers-same mid new (ap (λ (c : CoreView). c.servers) e)) (ap (λ (c : CoreView). c.verdicts) e));
+      keeps = KeepsClients-trans old mid new lost.keeps (KeepsClients-connections mid new (ap board_of e) rises (saves-as mid new (record mid { starved = min (mid.starved + 1) (2 ^ 64 - 1) }) e refl refl) (servers-same mid new (ap (λ (c : CoreView). c.servers) e)) (ap (λ (c : CoreView). c.verdicts) e));
       counted = λ below. (let count : new.starved ≡ min (mid.starved + 1) (2 ^ 64 - 1) = ap (λ (c : CoreView). c.starved) e in omega (arith, count, same, below));
     }
 
@@ -275,10 +285,10 @@ line-asked old new k line s request at sits e done = λ told.
 abbrev pub replied : CoreView → ℕ → Known → CoreView
 replied old k session' = record old { connections = put_at connection_link k (record { session = session'; leaving = None }) old.connections }
 
-ask-answer : (old new : CoreView) (k : ℕ) (s : Connection) (session' : Known) (answer : Answer) (result : Outcome) → at_key connection_link k old.connections ≡ Some s → is_open s ≡ true → answer.client.link ≡ s.session.client.link
+ask-answer : (old new : CoreView) (k : ℕ) (s : Connection) (session' : Known) (answer : Answer) (result : Outcome) → BoardSteps (board_of old) (board_of (replied old k session')) → at_key connection_link k old.connections ≡ Some s → is_open s ≡ true → answer.client.link ≡ s.session.client.link
     → AnswersRequest s.session session' result answer → Does (replied old k session') new (λ state. outcome_step state k result)
     → Does old new (λ state. answer_step state (client_link s.session.client) answer)
-ask-answer old new k s session' answer result at sits same answered done = λ told.
+ask-answer old new k s session' answer result steps at sits same answered done = λ told.
     let here : client_link s.session.client ≡ k = at_key-key connection_link k old.connections s at in
     let key : client_link session'.client ≡ k = ap (λ (c : Client). client_link c) answered.client ∙ ap (λ (l : LinkId). l.0) same ∙ here in
     let mid = replied old k session' in
@@ -287,24 +297,43 @@ ask-answer old new k s session' answer result at sits same answered done = λ to
     let P : Client → Type 0 = λ client. FollowsUnlessStarved told old mid (of client) in
     let reply : FollowsUnlessStarved told old mid (of answer.client) = subst P answered.client
     (FollowsUnlessStarved-exact told old mid (of session'.client)
-    (KeepsClients-put old k s (record { session = session'; leaving = None }) at sits key) (λ distinct j. reply-left old k s session' answer.messages j at sits key)
+    (KeepsClients-put old k s (record { session = session'; leaving = None }) steps at sits key) (λ distinct j. reply-left old k s session' answer.messages j at sits key)
     (λ distinct were. Follows-reply told old k s session' answer.messages at sits key answered.sends.bytes were)) in
     let Q : Outcome → Type 0 = λ o. Does mid new (λ state. outcome_step state k o) in
     rw here (FollowsUnlessStarved-then told old mid new (of answer.client) (λ next. outcome_step next k answer.outcome) (reply-later mid k (of answer.client).state answer.messages answer.outcome) reply (subst Q answered.outcome done))
+
+-- the board as its client is answered
+answered_steps : (old : CoreView) (k : ℕ) (s : Connection) (session' : Known) (request : Request) (result : Outcome) → at_key connection_link k old.connections ≡ Some s → is_open s ≡ true
+    → OnServed result (AnswersRequest s.session session' result (reply_of old.world old.options s.session.client request)) → OnNoMemory result (session' ≡ s.session) → BoardSteps (board_of old) (board_of (replied old k session'))
+answered_steps old k s session' request result at sits answered same = steps-one (board_of old) (board_of (replied old k session')) (Answers (record {
+  link = k;
+  connection = s;
+  options = old.options;
+  request = request;
+  result = result;
+  at = at;
+  sits = sits;
+  answered = record {
+    session = session';
+    answered = answered;
+    refused = same;
+    put = ap (λ (leaving : Option Cause). record (board_of old) { connections = put_at connection_link k (record { session = session'; leaving = leaving }) old.connections }) (sym (open_none s sits));
+  };
+}))
 
 -- a request of an open client, whose answer was followed
 pub ask-served : (old new : CoreView) (k : ℕ) (s : Connection) (session' : Known) (request : Request) (result : Outcome) → at_key connection_link k old.connections ≡ Some s → is_open s ≡ true → RequestIsUtf8 request
     → OnServed result (AnswersRequest s.session session' result (reply_of old.world old.options s.session.client request)) → OnNoMemory result (session' ≡ s.session)
     → OnServed result (Does (replied old k session') new (λ state. outcome_step state k result)) → OnNoMemory result (RanOutOfMemory (replied old k session') new)
     → Does old new (λ state. reply_step state s.session.client request)
-ask-served old new k s session' request outcome.Replied at sits utf8 answered same done starved = ask-answer old new k s session' (reply_of old.world old.options s.session.client request) outcome.Replied at sits (reply_fits old.world old.options s.session.client request utf8).link answered done
-ask-served old new k s session' request outcome.Silent at sits utf8 answered same done starved = ask-answer old new k s session' (reply_of old.world old.options s.session.client request) outcome.Silent at sits (reply_fits old.world old.options s.session.client request utf8).link answered done
-ask-served old new k s session' request (outcome.Input buffer text) at sits utf8 answered same done starved = ask-answer old new k s session' (reply_of old.world old.options s.session.client request) (outcome.Input buffer text) at sits (reply_fits old.world old.options s.session.client request utf8).link answered done
-ask-served old new k s session' request (outcome.Leave why) at sits utf8 answered same done starved = ask-answer old new k s session' (reply_of old.world old.options s.session.client request) (outcome.Leave why) at sits (reply_fits old.world old.options s.session.client request utf8).link answered done
+ask-served old new k s session' request outcome.Replied at sits utf8 answered same done starved = ask-answer old new k s session' (reply_of old.world old.options s.session.client request) outcome.Replied (answered_steps old k s session' request outcome.Replied at sits answered same) at sits (reply_fits old.world old.options s.session.client request utf8).link answered done
+ask-served old new k s session' request outcome.Silent at sits utf8 answered same done starved = ask-answer old new k s session' (reply_of old.world old.options s.session.client request) outcome.Silent (answered_steps old k s session' request outcome.Silent at sits answered same) at sits (reply_fits old.world old.options s.session.client request utf8).link answered done
+ask-served old new k s session' request (outcome.Input buffer text) at sits utf8 answered same done starved = ask-answer old new k s session' (reply_of old.world old.options s.session.client request) (outcome.Input buffer text) (answered_steps old k s session' request (outcome.Input buffer text) at sits answered same) at sits (reply_fits old.world old.options s.session.client request utf8).link answered done
+ask-served old new k s session' request (outcome.Leave why) at sits utf8 answered same done starved = ask-answer old new k s session' (reply_of old.world old.options s.session.client request) (outcome.Leave why) (answered_steps old k s session' request (outcome.Leave why) at sits answered same) at sits (reply_fits old.world old.options s.session.client request utf8).link answered done
 ask-served old new k s session' request outcome.NoMemory at sits utf8 answered same done starved =
     let key : client_link session'.client ≡ k = ap (λ (known : Known). client_link known.client) same ∙ at_key-key connection_link k old.connections s at in
     let mid = replied old k session' in
-    let keeps = KeepsClients-put old k s (record { session = session'; leaving = None }) at sits key in
+    let keeps = KeepsClients-put old k s (record { session = session'; leaving = None }) (answered_steps old k s session' request outcome.NoMemory at sits answered same) at sits key in
     Does-starved old new (λ state. reply_step state s.session.client request) (record {
       keeps = KeepsClients-trans old mid new keeps starved.keeps;
       causes = λ distinct j.

@@ -5,6 +5,7 @@ use Rattle.wc_text.specs.declared.names.Cause.{Cause}
 use Rattle.wc_text.specs.declared.names.Cause.TheVariants.{NoMemory}
 use Rattle.wc_outside.specs.Keyed.{at_key}
 use Rattle.wc_board.specs.declared.connection.Connection.{Connection}
+use Rattle.wc_board.specs.BoardView.{BoardView}
 use Rattle.wc_core.specs.CoreView.{CoreView}
 use Rattle.wc_servers.specs.Outs.{Out, ServersFollow}
 use Rattle.wc_servers.proofs.OutLemmas.{ServersFollow-refl, ServersFollow-trans}
@@ -17,6 +18,8 @@ use Rattle.wc_core.specs.Served.{links_of, state_of, WereTold, sent_by, sent_to,
 use Rattle.wc_board.specs.Served.{StaysOrStarves}
 use Rattle.wc_core.specs.State.{Beside, beside}
 use Rattle.wc_eval.specs.Verdicts.{Oracle, Agrees, Stay, VerdictsView}
+use Rattle.wc_core.specs.BoardSteps.{board_of}
+use Rattle.wc_core.proofs.BoardStepLemmas.{steps-none, steps-both, steps-same}
 use Rattle.wc_core.proofs.OracleLemmas.{Stay-refl, Stay-trans, Agrees-before, verdicts-same}
 
 pub sent_to-append : (j : ℕ) (a b : List Act) → sent_to j (a ++ b) ≡ sent_to j a ++ sent_to j b
@@ -95,10 +98,11 @@ KeepsSaved-trans a b c (inr f) (inl g) = inr (g.0 ∙ f.0, subst IsSome (sym g.1
 KeepsSaved-trans a b c f (inr g) = inr g
 
 pub KeepsClients-refl : (a : CoreView) → KeepsClients a a
-KeepsClients-refl a = record { rises = omega arith; links = refl; kept = λ j s. refl; saves = inl (refl, refl); servers = ServersKeep-refl a.servers; verdicts = Stay-refl a.verdicts }
+KeepsClients-refl a = record { board = steps-none (board_of a); rises = omega arith; links = refl; kept = λ j s. refl; saves = inl (refl, refl); servers = ServersKeep-refl a.servers; verdicts = Stay-refl a.verdicts }
 
 pub KeepsClients-trans : (a b c : CoreView) → KeepsClients a b → KeepsClients b c → KeepsClients a c
 KeepsClients-trans a b c f g = record {
+  board = steps-both (board_of a) (board_of b) (board_of c) f.board g.board;
   rises = (let p = f.rises in let q = g.rises in omega arith);
   links = g.links ∙ f.links;
   kept = λ j s.
@@ -110,9 +114,9 @@ KeepsClients-trans a b c f g = record {
   verdicts = Stay-trans a.verdicts b.verdicts c.verdicts f.verdicts g.verdicts;
 }
 
--- the same connections, and want of memory may be counted
-pub KeepsClients-connections : (a b : CoreView) → b.connections ≡ a.connections → a.starved ≤ b.starved → KeepsSaved a b → ServersKeep a.servers b.servers → b.verdicts ≡ a.verdicts → KeepsClients a b
-KeepsClients-connections a b e rises saves servers judged = record { rises = rises; links = ap (map connection_link) e; kept = λ j s. ap (at_key connection_link j) e; saves = saves; servers = servers; verdicts = verdicts-same a.verdicts b.verdicts judged }
+-- the same board, and want of memory may be counted
+pub KeepsClients-connections : (a b : CoreView) → board_of b ≡ board_of a → a.starved ≤ b.starved → KeepsSaved a b → ServersKeep a.servers b.servers → b.verdicts ≡ a.verdicts → KeepsClients a b
+KeepsClients-connections a b same rises saves servers judged = let e : b.connections ≡ a.connections = ap (λ (board : BoardView). board.connections) same in record { board = steps-same a b same; rises = rises; links = ap (map connection_link) e; kept = λ j s. ap (at_key connection_link j) e; saves = saves; servers = servers; verdicts = verdicts-same a.verdicts b.verdicts judged }
 
 -- nothing is saved where this is all that is known of what was saved
 pub saves-as : (a b c : CoreView) → b ≡ c → c.saved ≡ a.saved → c.unwritten ≡ a.unwritten → KeepsSaved a b

@@ -9,6 +9,8 @@ use Rattle.wc_outside.specs.Keyed.{at_key}
 use Rattle.wc_board.specs.Connections.{connection_link, leaving_on}
 use Rattle.wc_board.specs.Served.{StaysOrStarves}
 use Rattle.wc_core.specs.CoreView.{CoreView}
+use Rattle.wc_core.specs.BoardSteps.{board_of}
+use Rattle.wc_core.proofs.BoardStepLemmas.{steps-same}
 use Rattle.wc_core.specs.Evaluated.{value_at, holds_at, answer_text, printed_value, buffer_or_core, number_text, facts_by, facts_of_buffer, locals_of_buffer, facts_at}
 use Rattle.wc_core.specs.Inputs.{Judges, Values}
 use Rattle.wc_core.specs.State.{State, Beside, Stepped}
@@ -44,6 +46,7 @@ use Rattle.std.proofs.lemmas.Bool.Decides.{nat_tests}
 -- where verdicts alone are others, all clients stay
 pub keeps-judged : (a b : CoreView) → Judges a b → KeepsClients a b
 keeps-judged a b judges = record {
+  board = steps-same a b (ap board_of judges.only);
   rises = (let e = ap (λ (c : CoreView). c.starved) judges.only in omega arith);
   links = ap (λ (c : CoreView). links_of c) judges.only;
   kept = λ j some. ap (λ (c : CoreView). at_key connection_link j c.connections) judges.only;

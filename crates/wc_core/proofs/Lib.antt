@@ -4,6 +4,7 @@ pub mod ResolvedWords
 pub mod ResolvedTexts
 pub mod ComeLemmas
 pub mod OracleLemmas
+pub mod BoardStepLemmas
 pub mod DidLemmas
 pub mod ConnectionLemmas
 pub mod ChainLemmas

@@ -31,6 +31,9 @@ use Rattle.wc_board.proofs.PushConnections.{sent_client}
 use Rattle.wc_board.proofs.TellLaw.{rows_told}
 use Rattle.wc_servers.specs.Seats.{no_servers, open_of}
 use Rattle.wc_core.specs.CoreView.{CoreView}
+use Rattle.wc_core.specs.BoardSteps.{board_of, Pushes, Keeps}
+use Rattle.wc_core.proofs.BoardStepLemmas.{steps-one, steps-both}
+use Rattle.wc_board.specs.Answered.{IsPushed}
 use Rattle.wc_core.specs.Events.{Tick}
 use Rattle.wc_core.specs.State.{State, Stepped, first_state, has_end}
 use Rattle.wc_core.specs.Step.{step, client_link, pushed_to, push_step, pushes_of, push_at}
@@ -85,7 +88,7 @@ Does-over old mid new step e same done =
     over done = λ told.
         let f = done told in
         record {
-          keeps = record { rises = f.keeps.rises; links = f.keeps.links; kept = f.keeps.kept; saves = f.keeps.saves; servers = f.keeps.servers; verdicts = f.keeps.verdicts };
+          keeps = record { board = steps-both (board_of old) (record (board_of old) { pending = mid.pending }) (board_of new) (steps-one (board_of old) (record (board_of old) { pending = mid.pending }) (Keeps (record { same = same; put = refl }))) f.keeps.board; rises = f.keeps.rises; links = f.keeps.links; kept = f.keeps.kept; saves = f.keeps.saves; servers = f.keeps.servers; verdicts = f.keeps.verdicts };
           causes = f.causes;
           does = λ stays below distinct were agrees.
               let g = f.does stays below distinct (same-told old mid.pending told same were) agrees in
@@ -147,6 +150,7 @@ pushed_leaving j w told ns (connection ∷ connections) =
 
 -- the core after its pushes, whatever memory was refused
 pub record IsPushedCore (old new : CoreView) : Type 0 where
+  pub board : IsPushed (board_of old) (board_of new)
   pub stays : new ≡ record old { pending = new.pending; connections = new.connections; starved = new.starved }
   pub kept : ConnectionsKept old.connections new.connections
   pub rows : AreTold new.world new.pending (rows_at new.world)
@@ -156,6 +160,7 @@ pub record IsPushedCore (old new : CoreView) : Type 0 where
 
 pushed_keeps : (old new : CoreView) → IsPushedCore old new → KeepsClients old new
 pushed_keeps old new is = record {
+  board = steps-one (board_of old) (board_of new) (Pushes is.board);
   rises = is.rises;
   links = ConnectionsKept-links old.connections new.connections is.kept;
   kept = λ j some. ConnectionsKept-leaving j old.connections new.connections is.kept some;
@@ -196,7 +201,7 @@ pub tick-done : (old new : CoreView) (moment : ℕ) → Does (record old { momen
 tick-done old new moment done = λ told.
     let f = done told in
     record {
-      keeps = record { rises = f.keeps.rises; links = f.keeps.links; kept = f.keeps.kept; saves = f.keeps.saves; servers = f.keeps.servers; verdicts = f.keeps.verdicts };
+      keeps = record { board = f.keeps.board; rises = f.keeps.rises; links = f.keeps.links; kept = f.keeps.kept; saves = f.keeps.saves; servers = f.keeps.servers; verdicts = f.keeps.verdicts };
       causes = f.causes;
       does = λ same below distinct were agrees. (let g = f.does same below distinct were agrees in record { means = g.means; oracle = g.oracle; bytes = g.bytes; leaving = g.leaving; quits = g.quits; servers = g.servers; parts = g.parts });
     }

@@ -21,6 +21,7 @@ use Rattle.wc_session.specs.Known.{Known}
 use Rattle.wc_session.specs.Sending.{spelling}
 use Rattle.wc_board.specs.declared.connection.Connection.{Connection}
 use Rattle.wc_core.specs.CoreView.{CoreView}
+use Rattle.wc_core.specs.BoardSteps.{board_of, BoardSteps}
 use Rattle.wc_core.specs.TypedSeen.{lines_left}
 use Rattle.wc_core.specs.State.{State, Stepped, has_end}
 use Rattle.wc_core.specs.Inputs.{GoesOn, Stops}
@@ -59,8 +60,8 @@ Follows-told told told' old world pending n distinct were = record {
   parts = no-order old (told_to_all old world pending n) (tell_all_step (state_of old told) told' world n).acts refl (outs-told world n (clients_of old.connections));
 }
 
-pub KeepsClients-told : (old new : CoreView) → ConnectionsKept old.connections new.connections → old.starved ≤ new.starved → KeepsSaved old new → ServersKeep old.servers new.servers → new.verdicts ≡ old.verdicts → KeepsClients old new
-KeepsClients-told old new kept rises saves servers judged = record { verdicts = verdicts-same old.verdicts new.verdicts judged; servers = servers; saves = saves; rises = rises; links = ConnectionsKept-links old.connections new.connections kept; kept = λ j some. ConnectionsKept-leaving j old.connections new.connections kept some }
+pub KeepsClients-told : (old new : CoreView) → BoardSteps (board_of old) (board_of new) → ConnectionsKept old.connections new.connections → old.starved ≤ new.starved → KeepsSaved old new → ServersKeep old.servers new.servers → new.verdicts ≡ old.verdicts → KeepsClients old new
+KeepsClients-told old new steps kept rises saves servers judged = record { board = steps; verdicts = verdicts-same old.verdicts new.verdicts judged; servers = servers; saves = saves; rises = rises; links = ConnectionsKept-links old.connections new.connections kept; kept = λ j some. ConnectionsKept-leaving j old.connections new.connections kept some }
 
 -- ---- a connection that is changed
 
@@ -83,8 +84,9 @@ open_stays : (s : Connection) → is_open s ≡ true → IsSome s.leaving → �
 open_stays s sits some = stays_by s.leaving sits some
 
 -- the connection of an open client is changed
-pub KeepsClients-put : (old : CoreView) (k : ℕ) (s y : Connection) → at_key connection_link k old.connections ≡ Some s → is_open s ≡ true → connection_link y ≡ k → KeepsClients old (record old { connections = put_at connection_link k y old.connections })
-KeepsClients-put old k s y at sits key = record {
+pub KeepsClients-put : (old : CoreView) (k : ℕ) (s y : Connection) → BoardSteps (board_of old) (record (board_of old) { connections = put_at connection_link k y old.connections }) → at_key connection_link k old.connections ≡ Some s → is_open s ≡ true → connection_link y ≡ k → KeepsClients old (record old { connections = put_at connection_link k y old.connections })
+KeepsClients-put old k s y steps at sits key = record {
+  board = steps;
   rises = omega arith;
   links = put-links k y old.connections key;
   kept = λ j some. by j (eqb j k) refl some;

@@ -13,6 +13,7 @@ use Rattle.wc_servers.proofs.OutLemmas.{told-follows, known-follows, left-follow
 use Rattle.wc_servers.proofs.QuitLemmas.{may_quit_open, may_quit_all, quit-follows}
 use Rattle.wc_servers.proofs.SeatLemmas.{above_all}
 use Rattle.wc_core.specs.CoreView.{CoreView}
+use Rattle.wc_core.specs.BoardSteps.{board_of}
 use Rattle.wc_core.specs.State.{State, Act, Serves, Quits, Stepped, has_end}
 use Rattle.wc_core.specs.Changing.{no_step}
 use Rattle.wc_core.specs.ServerSteps.{send_step, with_server, leave_server, quit_step}
@@ -175,7 +176,7 @@ quits-starved old new servers m e counts rises =
     let count : new.starved ≡ min (old.starved + 1) (2 ^ 64 - 1) = ap (λ (core : CoreView). core.starved) counts in
     let P : ServersView → Type 0 = λ servers. ServersKeep old.servers servers in
     Does-starved old new quit_step (record {
-      keeps = KeepsClients-connections old new (ap (λ (core : CoreView). core.connections) counts) rises (saves-as old new (record old { servers = servers; quits = true; starved = min (old.starved + 1) (2 ^ 64 - 1) }) counts refl refl) (subst P (sym same) (come-quit old.servers servers.seats m)) (ap (λ (core : CoreView). core.verdicts) counts);
+      keeps = KeepsClients-connections old new (ap board_of counts) rises (saves-as old new (record old { servers = servers; quits = true; starved = min (old.starved + 1) (2 ^ 64 - 1) }) counts refl refl) (subst P (sym same) (come-quit old.servers servers.seats m)) (ap (λ (core : CoreView). core.verdicts) counts);
       causes = λ distinct j. inl (ap (λ (core : CoreView). leaving_on j core.connections) counts);
       counted = λ below. omega (arith, count, below);
     })

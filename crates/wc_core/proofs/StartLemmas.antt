@@ -96,7 +96,7 @@ goes-aside old mid quit' quit step going was done =
     aside done = λ told.
         let f = done told in
         record {
-          keeps = record { rises = f.keeps.rises; links = f.keeps.links; kept = f.keeps.kept; saves = f.keeps.saves; servers = f.keeps.servers; verdicts = f.keeps.verdicts };
+          keeps = record { board = f.keeps.board; rises = f.keeps.rises; links = f.keeps.links; kept = f.keeps.kept; saves = f.keeps.saves; servers = f.keeps.servers; verdicts = f.keeps.verdicts };
           causes = f.causes;
           does = λ same below distinct were agrees.
               let g = f.does same below distinct were agrees in
@@ -108,7 +108,7 @@ pub started : (old new : CoreView) (moment : ℕ) → Does (record old { moment 
 started old new moment done = λ told.
     let f = done told in
     record {
-      keeps = record { rises = f.keeps.rises; links = f.keeps.links; kept = f.keeps.kept; saves = f.keeps.saves; servers = f.keeps.servers; verdicts = f.keeps.verdicts };
+      keeps = record { board = f.keeps.board; rises = f.keeps.rises; links = f.keeps.links; kept = f.keeps.kept; saves = f.keeps.saves; servers = f.keeps.servers; verdicts = f.keeps.verdicts };
       causes = f.causes;
       does = λ same below distinct were agrees.
           let g = f.does same below distinct were agrees in

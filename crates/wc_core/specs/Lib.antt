@@ -1,3 +1,4 @@
+pub mod BoardSteps
 pub mod Changing
 pub mod Evaluated
 pub mod EvaluatedSeen

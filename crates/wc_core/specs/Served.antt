@@ -11,6 +11,7 @@ use Rattle.wc_session.specs.declared.outcome.Outcome.{Outcome}
 use Rattle.wc_session.specs.declared.outcome.Outcome.TheVariants as outcome
 use Rattle.wc_session.specs.declared.client.Client.{Client}
 use Rattle.wc_session.specs.Sending.{spelling}
+use Rattle.wc_core.specs.BoardSteps.{board_of, BoardSteps}
 use Rattle.wc_core.specs.CoreView.{CoreView}
 use Rattle.wc_board.specs.declared.connection.Connection.{Connection}
 use Rattle.wc_board.specs.Connections.{connection_link, is_open, unsent_on, leaving_on}
@@ -150,10 +151,11 @@ KeepsSaved old new = ((new.unwritten ≡ old.unwritten) × (new.saved ≡ old.sa
 abbrev pub unwritten_of : CoreView → Option (List ℕ)
 unwritten_of core = if core.unwritten then core.saved else None
 
--- what holds also where memory was refused: the same links have a client, a client that is leaving
--- stays as it is, servers come as they were begun and none goes, what was saved is not lost, and each
--- verdict stays
+-- what holds also where memory was refused: what became of the board are whole things, each change
+-- told to all who stay, the same links have a client, a client that is leaving stays as it is, servers
+-- come as they were begun and none goes, what was saved is not lost, and each verdict stays
 pub record KeepsClients (old new : CoreView) : Type 0 where
+  pub board : BoardSteps (board_of old) (board_of new)
   pub rises : old.starved ≤ new.starved
   pub links : links_of new ≡ links_of old
   pub kept : (link : ℕ) → IsSome (leaving_on link old.connections) →

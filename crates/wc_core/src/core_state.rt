@@ -1,7 +1,10 @@
 ghost use Rattle.std.specs.Prelude.{◌≡◌, ◌≢◌, ◌⊎◌, ◌∷◌, ◌≤◌, ◌^◌, ◌-◌, ◌+◌};
 ghost use Rattle.std.specs.Prelude.{◌<◌, ◌++◌, [], min, true, false, Some, None};
 ghost use Rattle.std.specs.Prelude.{IfOk, IfSome, map, string_bytes};
+ghost use Rattle.wc_text.specs.declared.names.Handle.{Handle as HandleValue};
+ghost use Rattle.wc_nickdiff.specs.Held.{touches_of};
 ghost use Rattle.wc_outside.specs.Keyed.{at_key, without};
+ghost use Rattle.wc_relaycmd.specs.Grammar.{HasCommand};
 ghost use Rattle.wc_relaycmd.specs.Utf8.{RequestIsUtf8};
 ghost use Rattle.wc_session.specs.Served.{OnServed, OnNoMemory};
 ghost use Rattle.wc_core.specs.Events.{Start, Tick, Arrives, Line as LineCame};
@@ -161,6 +164,7 @@ impl Core {
     }
 
     /// Sets the last moment, in milliseconds since 1970, and pushes what became of the nicklists.
+    /// Where nothing of them was touched that takes no memory.
     pub fn tick(&mut self, moment: u64)
         ensures does { Does self.old self.new (λ state. step state (Tick moment)) }
         ensures stays { self.new ≡ record self.old {
@@ -169,6 +173,8 @@ impl Core {
           moment = moment;
           starved = self.new.starved;
         } }
+        ensures idle { ((buffer : HandleValue) → touches_of buffer self.old.pending ≡ []) →
+            self.new ≡ record self.old { pending = self.new.pending; moment = moment } }
     {
         self.moment = moment;
         self.push();
@@ -182,6 +188,8 @@ impl Core {
           connections = self.new.connections;
           starved = self.new.starved;
         } }
+        ensures idle { ((buffer : HandleValue) → touches_of buffer self.old.pending ≡ []) →
+            self.new ≡ record self.old { pending = self.new.pending } }
     {
         if self.board.push() {
             return;
@@ -233,9 +241,11 @@ impl Core {
 
     /// Serves a line of a link: that of an open client, where it is a request, or else that of a
     /// server, where it is a message. A client that finds no memory for its reply or an event leaves
-    /// with that cause.
+    /// with that cause. A line of a client that is not UTF-8 or has no command's word takes no memory.
     pub fn relay_line(&mut self, link: LinkId, line: &[u8])
-        ensures { Does self.old self.new (λ state. step state (LineCame link.0 line.now)) }
+        ensures does { Does self.old self.new (λ state. step state (LineCame link.0 line.now)) }
+        ensures stray { is_open_at (at_key connection_link link.0 self.old.connections) ≡ true →
+            ¬ (HasCommand line.now) → self.new ≡ self.old }
     {
         if self.board.is_open(link) {
             self.client_line(link, line);
@@ -246,8 +256,9 @@ impl Core {
 
     /// Serves a line of a client, where the client is open and the line is a request.
     fn client_line(&mut self, link: LinkId, line: &[u8])
-        ensures { Does self.old self.new
+        ensures does { Does self.old self.new
             (λ state. line_step state line.now (at_key client_link link.0 state.clients)) }
+        ensures stray { ¬ (HasCommand line.now) → self.new ≡ self.old }
     {
         if !self.board.is_open(link) {
             return;

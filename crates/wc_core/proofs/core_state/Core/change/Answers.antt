@@ -13,7 +13,7 @@ returns-after-not-told-clause-made c = λ none.
     let e = c.in-Ok.ensures in
     let P : CoreView → Type 0 = λ core. MakesChange c.args.self.now c.args.change core in
     elim c.if-not-told.branch [
-      | then-not-told w ↦ subst P (sym w.self-is) (rw (← c.self.view_is) (changed-some _ c.tell.new.self w.starve.new.self c.args.change told.notice e.each w.starve.ensures.counts w.starve.ensures.rises))
+      | then-not-told w ↦ subst P (sym w.self-is) (rw (← c.self.view_is) (changed-some _ c.tell.new.self w.starve.new.self c.args.change told.notice e.outcome e.touched e.each w.starve.ensures.counts w.starve.ensures.rises))
       | else-not-told w ↦
           let are = subst AreBuffers (c.buffers.ensures ∙ ap (λ (w : World). w.groups) c.world.ensures.world) c.groups-after.ensures.held in
           subst P (sym w.self-is) (rw (← c.self.view_is) (changed-all _ c.tell.new.self c.args.change told.notice e.outcome e.touched are c.world-before.ensures.stray (e.told (not_not told.to_all w.if-not-told.false))))

@@ -6,19 +6,19 @@ use Rattle.wc_core.specs.CoreView.{CoreView}
 use Rattle.wc_core.proofs.AnswerLemmas.{line-shut, line-served, line-passed}
 use Rattle.wc_core.proofs.core_state.Core.client_line.Goals as goal
 
-pub returns-then-not-is_open : goal.returns-then-not-is_open
-returns-then-not-is_open c = rw (← c.self.view_is) (line-shut _ c.args.link.0 c.args.line.now (sym c.is_open.ensures ∙ c.if-not-is_open.true))
+pub returns-then-not-is_open-clause-does : goal.returns-then-not-is_open-clause-does
+returns-then-not-is_open-clause-does c = rw (← c.self.view_is) (line-shut _ c.args.link.0 c.args.line.now (sym c.is_open.ensures ∙ c.if-not-is_open.true))
 
-pub returns-in-Ok-Some : goal.returns-in-Ok-Some
-returns-in-Ok-Some c =
+pub returns-in-Ok-Some-clause-does : goal.returns-in-Ok-Some-clause-does
+returns-in-Ok-Some-clause-does c =
     let P : CoreView → Type 0 = λ core. session_at (at_key connection_link c.args.link.0 core.connections) ≡ Some c.in-Some.session.now in
     let Q : CoreView → Type 0 = λ core. is_open_at (at_key connection_link c.args.link.0 core.connections) ≡ true in
     line-served c.args.self.now c.ask.new.self c.args.link.0 c.args.line.now c.in-Some.session.now (Some c.in-Ok-Some.request)
     (subst P c.self.view_is (sym c.in-Some.ensures)) (subst Q c.self.view_is (sym c.is_open.ensures ∙ c.if-not-is_open.false))
     ((rw c.in-Ok-Some.field-0-is at c.in-Ok-Some.ensures.computed) ∙ ap (λ escaped. request_of escaped c.args.line.now) c.escaped.ensures) c.ask.ensures
 
-pub returns-in-Ok-None : goal.returns-in-Ok-None
-returns-in-Ok-None c =
+pub returns-in-Ok-None-clause-does : goal.returns-in-Ok-None-clause-does
+returns-in-Ok-None-clause-does c =
     let P : CoreView → Type 0 = λ core. session_at (at_key connection_link c.args.link.0 core.connections) ≡ Some c.in-Some.session.now in
     let Q : CoreView → Type 0 = λ core. is_open_at (at_key connection_link c.args.link.0 core.connections) ≡ true in
     line-served c.args.self.now c.args.self.now c.args.link.0 c.args.line.now c.in-Some.session.now None

@@ -5,9 +5,9 @@ use Rattle.wc_core.proofs.core_state.Core.push.Goals as goal
 pub returns-then-push-clause-does : goal.returns-then-push-clause-does
 returns-then-push-clause-does c =
     let e = c.push.ensures in
-    rw (← c.self.view_is) (push-by _ c.push.new.self c.self.inside.starved e.world e.kept e.rows (inl (refl, e.told c.if-push.true)))
+    rw (← c.self.view_is) (push-by _ c.push.new.self c.self.inside.starved (record { each = e.each; kept = e.kept; clients = e.clients; forgets = e.forgets; rows = e.rows; world = e.world }) (inl (refl, e.told c.if-push.true)))
 
 pub returns-clause-does : goal.returns-clause-does
 returns-clause-does c =
     let e = c.push.ensures in
-    rw (← c.self.view_is) (push-starved _ c.push.new.self c.starve.new.self e.world e.kept e.rows c.starve.ensures.counts c.starve.ensures.rises)
+    rw (← c.self.view_is) (push-starved _ c.push.new.self c.starve.new.self (record { each = e.each; kept = e.kept; clients = e.clients; forgets = e.forgets; rows = e.rows; world = e.world }) c.starve.ensures.counts c.starve.ensures.rises)

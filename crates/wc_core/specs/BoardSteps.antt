@@ -1,0 +1,79 @@
+-- What becomes of the board, one whole thing after another, also where memory is refused.
+use Rattle.std.specs.Prelude.{◌≡◌, ℕ, true, List, [], ◌∷◌, Some}
+use Rattle.wc_text.specs.declared.names.Cause.{Cause}
+use Rattle.wc_outside.specs.Keyed.{at_key}
+use Rattle.wc_options.specs.Options.{OptionsValue}
+use Rattle.wc_model.specs.declared.change.Change.{Change}
+use Rattle.wc_model.specs.declared.notice.Notice.{Notice}
+use Rattle.wc_model.specs.Notices.{Accepted}
+use Rattle.wc_relaycmd.specs.declared.request.Request.{Request}
+use Rattle.wc_session.specs.declared.outcome.Outcome.{Outcome}
+use Rattle.wc_board.specs.declared.connection.Connection.{Connection}
+use Rattle.wc_board.specs.Answered.{IsPushed, IsAnswered}
+use Rattle.wc_board.specs.BoardView.{BoardView}
+use Rattle.wc_board.specs.Connections.{connection_link, is_open, left_at}
+use Rattle.wc_board.specs.Served.{told_connection, ConnectionsServed}
+use Rattle.wc_board.specs.Told.{AreTouched, AreSameTouches}
+use Rattle.wc_core.specs.CoreView.{CoreView}
+
+-- the buffers of the core, what is kept of their touches, and its clients
+abbrev pub board_of : CoreView → BoardView
+board_of core = record {
+  world = core.world;
+  pending = core.pending;
+  connections = core.connections;
+}
+
+-- a change was made, and told to each client that is open and asked for its event; one that found no
+-- memory for it is leaving
+pub record TellsChange (old new : BoardView) : Type 0 where
+  pub change : Change
+  pub notice : Notice
+  pub accepted : Accepted old.world change new.world notice
+  pub touched : AreTouched old.world change old.pending new.pending
+  pub each : ConnectionsServed notice.kind notice.buffer.0 (told_connection new.world notice)
+      old.connections new.connections
+
+-- a request of an open client was answered, by the buffers as they then were
+pub record AnswersClient (old new : BoardView) : Type 0 where
+  pub link : ℕ
+  pub connection : Connection
+  pub options : OptionsValue
+  pub request : Request
+  pub result : Outcome
+  pub at : at_key connection_link link old.connections ≡ Some connection
+  pub sits : is_open connection ≡ true
+  pub answered : IsAnswered link options request result old new connection
+
+-- the client of a link is leaving, if it was open
+pub record LosesClient (old new : BoardView) : Type 0 where
+  pub link : ℕ
+  pub cause : Cause
+  pub put : new ≡ record old {
+    connections = left_at link cause old.connections (at_key connection_link link old.connections);
+  }
+
+-- what was touched is kept in another way
+pub record KeepsTouches (old new : BoardView) : Type 0 where
+  pub same : AreSameTouches old.pending new.pending
+  pub put : new ≡ record old { pending = new.pending }
+
+-- one thing, whole
+pub data BoardStep (old new : BoardView) : Type 0 where
+  Tells : TellsChange old new → BoardStep old new
+  Pushes : IsPushed old new → BoardStep old new
+  Answers : AnswersClient old new → BoardStep old new
+  Loses : LosesClient old new → BoardStep old new
+  Keeps : KeepsTouches old new → BoardStep old new
+
+-- one after another, through these boards
+abbrev pub StepsThrough : List BoardView → BoardView → BoardView → Type 0
+StepsThrough [] old new = new ≡ old
+StepsThrough (next ∷ boards) old new = BoardStep old next × StepsThrough boards next new
+
+-- So the buffers are those of the changes that were made, and what each client has after its unsent
+-- bytes are whole replies, events and pushes: a client that stays misses none of those that it asked
+-- for.
+pub record BoardSteps (old new : BoardView) : Type 0 where
+  pub boards : List BoardView
+  pub steps : StepsThrough boards old new
