@@ -3,7 +3,9 @@ use Rattle.std.proofs.Common.{◌≡◌, ℕ, ◌+◌, ◌-◌, ◌^◌, ◌<◌
 use Rattle.std.specs.Prelude.{map}
 use Rattle.std.proofs.lemmas.Bool.{false≢true}
 use Rattle.wc_text.specs.declared.names.Cause.{Cause}
+use Rattle.wc_text.specs.declared.names.Handle.{Handle}
 use Rattle.wc_text.specs.declared.names.LinkId.{LinkId}
+use Rattle.wc_nickdiff.specs.Held.{touches_of}
 use Rattle.wc_nicklist.specs.declared.item.Row.{Row}
 use Rattle.wc_options.specs.Options.{OptionsValue}
 use Rattle.wc_outside.specs.Keyed.{at_key, put_at}
@@ -24,7 +26,7 @@ use Rattle.wc_session.specs.Known.{Known}
 use Rattle.wc_session.specs.Reply.{reply_of}
 use Rattle.wc_session.specs.Served.{OnServed, AnswersRequest}
 use Rattle.wc_board.specs.declared.connection.Connection.{Connection}
-use Rattle.wc_board.specs.Answered.{is_nicklist, pushes_before, PushedIf, IsPushed, AnsweredIf, AnsweredAt, AnswersAfterPushes}
+use Rattle.wc_board.specs.Answered.{is_nicklist, pushes_before, PushedIf, IsPushed, AnsweredIf, AnsweredAt, AnswersAfterPushes, IsUnchanged}
 use Rattle.wc_board.specs.BoardView.{BoardView, NoStrayTouches}
 use Rattle.wc_board.specs.Connections.{connection_link, client_of, is_open, is_open_at, session_at, left_at, new_connection}
 use Rattle.wc_board.specs.Pushes.{pushed_connection}
@@ -40,9 +42,9 @@ use Rattle.wc_core.specs.Inputs.{MakesChange, push_before, AnswersRequestOf}
 use Rattle.wc_core.specs.Limits.{client_limit}
 use Rattle.wc_core.specs.Step.{client_link, no_step, push_step, request_step, line_step, loss_step, arrival_step}
 use Rattle.wc_core.specs.Served.{state_of, Does, AdmitsUnlessStarved, OutcomeUtf8}
-use Rattle.wc_core.proofs.CoreLemmas.{came-surplus, starved_only, lost-done, came, changes-all, changes-some, outcome-text, line-missing, line-leaving, line-asked}
-use Rattle.wc_core.proofs.DidLemmas.{Does-stays}
-use Rattle.wc_core.proofs.PushLemmas.{IsPushedCore, push-done}
+use Rattle.wc_core.proofs.CoreLemmas.{came-surplus, starves-only, starved_only, lost-done, came, changes-all, changes-some, outcome-text, line-missing, line-leaving, line-asked}
+use Rattle.wc_core.proofs.DidLemmas.{Does-stays, KeepsClients-trans}
+use Rattle.wc_core.proofs.PushLemmas.{IsPushedCore, push-done, keeps-touches}
 use Rattle.wc_core.proofs.ReplyLemmas.{reply_fits}
 
 -- the core with this board and count
@@ -313,3 +315,24 @@ on_ok (Err f) P e h = absurd (false≢true (sym e))
 pub not_not : (b : Bool) → not b ≡ false → b ≡ true
 not_not true e = refl
 not_not false e = absurd (false≢true (sym e))
+
+-- the core with a board of which what was touched alone is another
+idle-by : (old : CoreView) (board : BoardView) → board.world ≡ old.world → board.connections ≡ old.connections → with_board old board old.starved ≡ record old { pending = board.pending }
+idle-by old board world connections =
+    ap (λ (w : World). record old { world = w; pending = board.pending; connections = board.connections }) world ∙ ap (λ (all : List Connection). record old { pending = board.pending; connections = all }) connections
+
+-- no change is made, for want of memory
+pub changed-none : (old : CoreView) (board : BoardView) (new : CoreView) (change : Change) → IsUnchanged (board_of old) board → new ≡ record (with_board old board old.starved) { starved = min (old.starved + 1) (2 ^ 64 - 1) } → old.starved ≤ new.starved → MakesChange old change new
+changed-none old board new change stays counts rises =
+    let mid : CoreView = record old { pending = board.pending } in
+    let same : with_board old board old.starved ≡ mid = idle-by old board stays.world stays.connections in
+    let starves = starves-only mid new (counts ∙ ap (λ (core : CoreView). record core { starved = min (old.starved + 1) (2 ^ 64 - 1) }) same) rises in
+    inr (record {
+      keeps = KeepsClients-trans old mid new (keeps-touches old board.pending stays.touches) starves.keeps;
+      causes = starves.causes;
+      counted = starves.counted;
+    })
+
+-- the core after pushes of nothing
+pub idle-pushed : (old : CoreView) (board : BoardView) → ((buffer : Handle) → touches_of buffer old.pending ≡ []) → board.world ≡ old.world → board.connections ≡ old.connections → with_board old board old.starved ≡ record old { pending = board.pending }
+idle-pushed old board none world connections = idle-by old board world connections

@@ -1,5 +1,5 @@
 -- The core at first, and what it does of nicklists.
-use Rattle.std.proofs.Common.{◌≡◌, ℕ, ◌-◌, ◌^◌, ◌<◌, ◌≤◌, Bool, true, false, cond, eqb, List, [], ◌∷◌, ◌++◌, inr, None, Some, unwrap_or, refl, ap, sym, subst, ◌∙◌, ◌||◌}
+use Rattle.std.proofs.Common.{◌≡◌, ℕ, ◌-◌, ◌^◌, ◌<◌, ◌≤◌, Bool, true, false, cond, eqb, List, [], ◌∷◌, ◌++◌, inl, inr, arith, None, Some, unwrap_or, refl, ap, sym, subst, ◌∙◌, ◌||◌}
 use Rattle.std.specs.Prelude.{map}
 use Rattle.std.specs.List.{flat_map}
 use Rattle.std.specs.FinMap.{FinMap, get, insert, empty, get-empty, get-insert}
@@ -43,7 +43,8 @@ use Rattle.wc_core.proofs.ConnectionLemmas.{end-sends, outs-sends}
 use Rattle.wc_core.proofs.DidLemmas.{or_else-none, or-false, has_end-append, outs_of-append, no-outs, no-order, servers-same, saves-as}
 use Rattle.wc_core.proofs.PushBytes.{pushes-sent, pushed-clients}
 use Rattle.wc_eval.specs.Verdicts.{Oracle, VerdictsView}
-use Rattle.wc_core.proofs.OracleLemmas.{verdicts-same}
+use Rattle.wc_core.proofs.ComeLemmas.{ServersKeep-refl}
+use Rattle.wc_core.proofs.OracleLemmas.{verdicts-same, Stay-refl}
 
 -- ---- the core at first
 
@@ -76,6 +77,18 @@ pub same-told : (old : CoreView) (pending : List OfBuffer) (told : Beside) → A
 same-told old pending told same were b = record {
   held = (were b).held;
   found = λ k. ap (λ first. told_or first (find_row k (rows_at old.world b.0))) (same b k) ∙ (were b).found k;
+}
+
+-- where what was touched is kept in another way, all clients stay
+pub keeps-touches : (old : CoreView) (pending : List OfBuffer) → AreSameTouches old.pending pending → KeepsClients old (record old { pending = pending })
+keeps-touches old pending same = record {
+  board = steps-one (board_of old) (record (board_of old) { pending = pending }) (Keeps (record { same = same; put = refl }));
+  rises = omega arith;
+  links = refl;
+  kept = λ j some. refl;
+  saves = inl (refl, refl);
+  servers = ServersKeep-refl old.servers;
+  verdicts = Stay-refl old.verdicts;
 }
 
 -- so what is done after that is done
