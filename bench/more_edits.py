@@ -91,6 +91,8 @@ def try_whole(edit):
 
 def try_together(edits):
     """What came of each of these edits, which change different functions."""
+    if not edits[0].functions:
+        return {edits[0].name: try_whole(edits[0])}
     texts = {}
     for edit in edits:
         texts = edit.apply(texts)
