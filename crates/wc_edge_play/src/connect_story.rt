@@ -1,7 +1,7 @@
 //! Connections that the sockets begin: one that stands, one that is refused, one whose peer closes,
 //! and more than there is room for.
 
-use crate::stage::{OFTEN, Played, SELDOM, close, read, read_times, wait, write};
+use crate::stage::{OFTEN, Played, SELDOM, Stage};
 use std::io::{self, Read, Write};
 use std::net::{Ipv4Addr, Net, OpenListener, SocketAddr, TcpListener};
 use wc_edge::MioSockets;
@@ -43,93 +43,116 @@ fn ask(sockets: &mut Played<'_>, port: u16) -> Result<LinkId, Failed> {
 }
 
 /// Shows what comes of a connection that is begun.
-fn begin(rt: &HostRuntime, sockets: &mut Played<'_>, port: u16) -> io::Result<()> {
-    let begun = ask(sockets, port);
-    print!(rt; "connect: {begun:?}\n")
+fn begin(stage: &mut Stage<'_>, port: u16) {
+    let begun = ask(&mut stage.sockets, port);
+    let shown = print!(stage.rt; "connect: {begun:?}\n");
+    stage.note(shown);
 }
 
 /// Shows whether a connection stands.
-fn decide(rt: &HostRuntime, sockets: &mut Played<'_>, link: u64) -> io::Result<()> {
-    let stands = sockets.connected(LinkId(link));
-    print!(rt; "connected {link}: {stands:?}\n")
+fn decide(stage: &mut Stage<'_>, link: u64) {
+    let stands = stage.sockets.connected(LinkId(link));
+    let shown = print!(stage.rt; "connected {link}: {stands:?}\n");
+    stage.note(shown);
 }
 
 /// Shows the next byte that the server reads.
-fn show_byte<S: Read>(rt: &HostRuntime, server: &mut S) -> io::Result<()> {
+fn show_byte<S: Read>(stage: &mut Stage<'_>, server: &mut S) {
     let mut byte = [0; 1];
-    server.read_exact(&mut byte)?;
-    print!(rt; "-- the server reads {byte:?}\n")
+    stage.fill_from(server, &mut byte);
+    let shown = print!(stage.rt; "-- the server reads {byte:?}\n");
+    stage.note(shown);
+}
+
+/// A server and its client write to each other, and the server goes.
+fn talk<S: Read + Write>(stage: &mut Stage<'_>, server: &mut S) {
+    stage.write(1, b"a");
+    show_byte(stage, server);
+    stage.show("-- the server writes\n");
+    stage.note(server.write_all(b"b"));
+    stage.wait(OFTEN);
+    stage.read_times(1, 2);
+    stage.wait(SELDOM);
+    stage.show("-- the server goes\n");
 }
 
 /// A connection that stands, and whose peer goes.
-fn play_standing(rt: &HostRuntime, sockets: &mut Played<'_>) -> io::Result<()> {
-    let listener = serve(rt, SERVER)?;
-    begin(rt, sockets, SERVER)?;
-    wait(rt, sockets, OFTEN)?;
-    decide(rt, sockets, 1)?;
+fn play_standing(stage: &mut Stage<'_>) -> io::Result<()> {
+    let listener = serve(stage.rt, SERVER)?;
+    begin(stage, SERVER);
+    stage.wait(OFTEN);
+    decide(stage, 1);
     let (mut server, _) = listener.accept()?;
-    write(rt, sockets, 1, b"a")?;
-    show_byte(rt, &mut server)?;
-    print!(rt; "-- the server writes\n")?;
-    server.write_all(b"b")?;
-    wait(rt, sockets, OFTEN)?;
-    read_times(rt, sockets, 1, 2)?;
-    wait(rt, sockets, SELDOM)?;
-    print!(rt; "-- the server goes\n")
+    talk(stage, &mut server);
+    Ok(())
 }
 
 /// A connection that is refused, once the peer of another went.
-fn play_refused(rt: &HostRuntime, sockets: &mut Played<'_>) -> io::Result<()> {
-    wait(rt, sockets, OFTEN)?;
-    begin(rt, sockets, NOBODY)?;
-    wait(rt, sockets, OFTEN)?;
-    decide(rt, sockets, 2)?;
-    close(rt, sockets, 2)?;
-    wait(rt, sockets, SELDOM)?;
-    read(rt, sockets, 1)?;
-    decide(rt, sockets, 3)
+fn play_refused(stage: &mut Stage<'_>) {
+    stage.wait(OFTEN);
+    begin(stage, NOBODY);
+    stage.wait(OFTEN);
+    decide(stage, 2);
+    stage.close(2);
+    stage.wait(SELDOM);
+    stage.read(1);
+    decide(stage, 3);
 }
 
 /// A connection whose peer closes it before anybody asks.
-fn play_closed(rt: &HostRuntime, sockets: &mut Played<'_>) -> io::Result<()> {
-    let listener = serve(rt, SERVER)?;
-    begin(rt, sockets, SERVER)?;
+fn play_closed(stage: &mut Stage<'_>) -> io::Result<()> {
+    let listener = serve(stage.rt, SERVER)?;
+    begin(stage, SERVER);
     listener.accept()?;
-    print!(rt; "-- the server closes at once\n")?;
-    wait(rt, sockets, OFTEN)?;
-    decide(rt, sockets, 3)?;
-    read(rt, sockets, 3)
+    stage.show("-- the server closes at once\n");
+    stage.wait(OFTEN);
+    decide(stage, 3);
+    stage.read(3);
+    Ok(())
 }
 
 /// Begins as many connections as there is room for, to a server that takes none.
-fn fill(rt: &HostRuntime, sockets: &mut Played<'_>) -> io::Result<()> {
+fn fill(stage: &mut Stage<'_>) {
     let mut begun = 0u32;
     for _ in 0..SLOTS {
-        if ask(sockets, BUSY).is_ok() {
+        if ask(&mut stage.sockets, BUSY).is_ok() {
             begun = begun.saturating_add(1);
         }
     }
-    print!(rt; "-- {begun} connections are begun\n")
+    let shown = print!(stage.rt; "-- {begun} connections are begun\n");
+    stage.note(shown);
 }
 
 /// One more connection than there is room for fails, and uses its number up.
+fn overfill(stage: &mut Stage<'_>) {
+    fill(stage);
+    decide(stage, 1);
+    decide(stage, 512);
+    begin(stage, BUSY);
+    decide(stage, 513);
+    stage.close(1);
+    begin(stage, BUSY);
+}
+
 fn play_full(rt: &HostRuntime) -> io::Result<()> {
     let _server = serve(rt, BUSY)?;
-    let mut sockets = MioSockets::new(rt, rt.alloc())?;
-    fill(rt, &mut sockets)?;
-    decide(rt, &mut sockets, 1)?;
-    decide(rt, &mut sockets, 512)?;
-    begin(rt, &mut sockets, BUSY)?;
-    decide(rt, &mut sockets, 513)?;
-    close(rt, &mut sockets, 1)?;
-    begin(rt, &mut sockets, BUSY)
+    let sockets = MioSockets::new(rt, rt.alloc())?;
+    let mut stage = Stage::new(rt, sockets);
+    overfill(&mut stage);
+    stage.end()
+}
+
+fn play_peers(stage: &mut Stage<'_>) -> io::Result<()> {
+    play_standing(stage)?;
+    play_refused(stage);
+    play_closed(stage)?;
+    stage.end()
 }
 
 pub fn play(rt: &HostRuntime) -> io::Result<()> {
     print!(rt; "== connections are begun\n")?;
-    let mut sockets = MioSockets::new(rt, rt.alloc())?;
-    play_standing(rt, &mut sockets)?;
-    play_refused(rt, &mut sockets)?;
-    play_closed(rt, &mut sockets)?;
+    let sockets = MioSockets::new(rt, rt.alloc())?;
+    let mut stage = Stage::new(rt, sockets);
+    play_peers(&mut stage)?;
     play_full(rt)
 }

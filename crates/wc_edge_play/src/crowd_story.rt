@@ -1,6 +1,6 @@
 //! More sources than one wait reports, and more clients than there is room for.
 
-use crate::stage::{OFTEN, PORT, Played, SELDOM, accept, connect, wait};
+use crate::stage::{OFTEN, PORT, SELDOM, Stage, connect};
 use std::io;
 use wc_edge::MioSockets;
 use wc_outside::{Ready, Sockets};
@@ -12,39 +12,72 @@ const MANY: u32 = 70;
 const SLOTS: u32 = 512;
 
 /// So many clients come, and go again before they are taken.
-fn come(rt: &HostRuntime, count: u32) -> io::Result<()> {
+fn come(stage: &mut Stage<'_>, count: u32) -> io::Result<()> {
     for _ in 0..count {
-        connect(rt)?;
+        connect(stage.rt)?;
     }
-    print!(rt; "-- {count} clients come and go\n")
+    print!(stage.rt; "-- {count} clients come and go\n")
 }
 
 /// Takes so many clients.
-fn take(rt: &HostRuntime, sockets: &mut Played<'_>, count: u32) -> io::Result<()> {
+fn take(stage: &mut Stage<'_>, count: u32) {
     let mut taken = 0u32;
     for _ in 0..count {
-        if let Ok(Some(_)) = sockets.accept() {
+        if let Ok(Some(_)) = stage.sockets.accept() {
             taken = taken.saturating_add(1);
         }
     }
-    print!(rt; "{taken} are taken\n")
+    let shown = print!(stage.rt; "{taken} are taken\n");
+    stage.note(shown);
+}
+
+/// Shows how many sources a wait reports.
+fn count_once(stage: &mut Stage<'_>, ready: &mut Ready) {
+    if stage.sockets.wait(0, ready).is_err() {
+        stage.show(" failed");
+    }
+    let shown = print!(stage.rt; " {}", ready.count);
+    stage.note(shown);
 }
 
 /// Shows how many sources each wait reports, until one reports none.
-fn count_sources(rt: &HostRuntime, sockets: &mut Played<'_>) -> io::Result<()> {
+fn count_sources(stage: &mut Stage<'_>) {
     let mut ready = Ready::new();
-    print!(rt; "waits:")?;
+    stage.show("waits:");
     for _ in 0..SLOTS {
-        if sockets.wait(0, &mut ready).is_err() {
-            print!(rt; " failed")?;
-        }
-        let count = ready.count;
-        print!(rt; " {count}")?;
-        if count == 0 {
+        count_once(stage, &mut ready);
+        if ready.count == 0 {
             break;
         }
     }
-    print!(rt; "\n")
+    stage.show("\n");
+}
+
+/// So many clients come, and so many are taken.
+fn meet(stage: &mut Stage<'_>, coming: u32, taken: u32) -> io::Result<()> {
+    come(stage, coming)?;
+    stage.wait(OFTEN);
+    take(stage, taken);
+    count_sources(stage);
+    Ok(())
+}
+
+/// More clients come than there is room for.
+fn crowd(stage: &mut Stage<'_>) -> io::Result<()> {
+    come(stage, SLOTS + MANY)?;
+    stage.wait(OFTEN);
+    stage.accept();
+    stage.wait(OFTEN);
+    stage.accept();
+    stage.wait(SELDOM);
+    Ok(())
+}
+
+fn play_clients(stage: &mut Stage<'_>) -> io::Result<()> {
+    meet(stage, MANY, MANY)?;
+    meet(stage, SLOTS, SLOTS - MANY)?;
+    crowd(stage)?;
+    stage.end()
 }
 
 pub fn play(rt: &HostRuntime) -> io::Result<()> {
@@ -53,18 +86,6 @@ pub fn play(rt: &HostRuntime) -> io::Result<()> {
     if sockets.listen(PORT).is_err() {
         return print!(rt; "the port is taken\n");
     }
-    come(rt, MANY)?;
-    wait(rt, &mut sockets, OFTEN)?;
-    take(rt, &mut sockets, MANY)?;
-    count_sources(rt, &mut sockets)?;
-    come(rt, SLOTS)?;
-    wait(rt, &mut sockets, OFTEN)?;
-    take(rt, &mut sockets, SLOTS - MANY)?;
-    count_sources(rt, &mut sockets)?;
-    come(rt, SLOTS + MANY)?;
-    wait(rt, &mut sockets, OFTEN)?;
-    accept(rt, &mut sockets)?;
-    wait(rt, &mut sockets, OFTEN)?;
-    accept(rt, &mut sockets)?;
-    wait(rt, &mut sockets, SELDOM)
+    let mut stage = Stage::new(rt, sockets);
+    play_clients(&mut stage)
 }

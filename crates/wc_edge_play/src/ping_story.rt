@@ -2,9 +2,7 @@
 
 ghost use Rattle.wc_outside.specs.Seen.{IsDrained};
 
-use crate::stage::{
-    OFTEN, PORT, Played, SELDOM, close, connect, read, read_times, say, wait, welcome, write,
-};
+use crate::stage::{OFTEN, PORT, SELDOM, Stage, connect};
 use std::io::{self, Read, Write};
 use std::time::{Duration, Instant};
 use wc_edge::MioSockets;
@@ -13,51 +11,58 @@ use wc_outside::{Ready, Sockets};
 /// The answer to the ping.
 const PONG: &[u8; 34] = b"\0\0\0\x22\0\0\0\0\x05_pongstr\0\0\0\r1480802456789";
 
-/// Shows the 34 bytes that a client gets next.
-fn show_answer<S: Read>(rt: &HostRuntime, client: &mut S) -> io::Result<()> {
-    let mut answer = [0; 34];
-    client.read_exact(&mut answer)?;
-    print!(rt; "-- the client reads")?;
-    for byte in answer {
-        print!(rt; " {byte:02x}")?;
-    }
-    print!(rt; "\n")
+fn show_digits(stage: &mut Stage<'_>, byte: u8) {
+    let shown = print!(stage.rt; " {byte:02x}");
+    stage.note(shown);
 }
 
-/// A client is served, and drops.
-fn serve<S: Read + Write>(
-    rt: &HostRuntime,
-    sockets: &mut Played<'_>,
-    client: &mut S,
-) -> io::Result<()> {
-    welcome(rt, sockets)?;
-    wait(rt, sockets, OFTEN)?;
-    read(rt, sockets, 1)?;
-    say(rt, client, "init password=x\n")?;
-    wait(rt, sockets, OFTEN)?;
-    read_times(rt, sockets, 1, 3)?;
-    say(rt, client, "ping 1480802456789\n")?;
-    wait(rt, sockets, OFTEN)?;
-    read_times(rt, sockets, 1, 3)?;
-    write(rt, sockets, 1, PONG)?;
-    show_answer(rt, client)?;
-    wait(rt, sockets, SELDOM)
+/// Shows the 34 bytes that a client gets next.
+fn show_answer<S: Read>(stage: &mut Stage<'_>, client: &mut S) {
+    let mut answer = [0; 34];
+    stage.fill_from(client, &mut answer);
+    stage.show("-- the client reads");
+    for byte in answer {
+        show_digits(stage, byte);
+    }
+    stage.show("\n");
+}
+
+/// A client is let in.
+fn log_in<S: Write>(stage: &mut Stage<'_>, client: &mut S) {
+    stage.welcome();
+    stage.wait(OFTEN);
+    stage.read(1);
+    stage.say(client, "init password=x\n");
+    stage.wait(OFTEN);
+    stage.read_times(1, 3);
+}
+
+/// A client gets an answer to its ping.
+fn ping<S: Read + Write>(stage: &mut Stage<'_>, client: &mut S) {
+    stage.say(client, "ping 1480802456789\n");
+    stage.wait(OFTEN);
+    stage.read_times(1, 3);
+    stage.write(1, PONG);
+    show_answer(stage, client);
+    stage.wait(SELDOM);
 }
 
 /// A client comes, is served, and goes.
-fn visit(rt: &HostRuntime, sockets: &mut Played<'_>) -> io::Result<()> {
-    let mut client = connect(rt)?;
-    serve(rt, sockets, &mut client)?;
-    print!(rt; "-- the client goes\n")
+fn visit(stage: &mut Stage<'_>) -> io::Result<()> {
+    let mut client = connect(stage.rt)?;
+    log_in(stage, &mut client);
+    ping(stage, &mut client);
+    stage.show("-- the client goes\n");
+    Ok(())
 }
 
 /// The link of a client that is gone ends, and once it is closed there is nothing to read.
-fn end(rt: &HostRuntime, sockets: &mut Played<'_>) -> io::Result<()> {
-    wait(rt, sockets, OFTEN)?;
-    read(rt, sockets, 1)?;
-    close(rt, sockets, 1)?;
-    read(rt, sockets, 1)?;
-    wait(rt, sockets, SELDOM)
+fn leave(stage: &mut Stage<'_>) {
+    stage.wait(OFTEN);
+    stage.read(1);
+    stage.close(1);
+    stage.read(1);
+    stage.wait(SELDOM);
 }
 
 /// Waits for 100 ms at sockets that are drained, and shows whether that time passed with nothing.
@@ -72,6 +77,12 @@ fn rest<S: Sockets>(rt: &HostRuntime, sockets: &mut S) -> io::Result<()>
     print!(rt; "wait for 100 ms: {is_woken} {tokens:?} {is_over}\n")
 }
 
+fn play_client(stage: &mut Stage<'_>) -> io::Result<()> {
+    visit(stage)?;
+    leave(stage);
+    stage.end()
+}
+
 pub fn play(rt: &HostRuntime) -> io::Result<()> {
     print!(rt; "== a ping is answered by 34 bytes\n")?;
     let mut sockets = MioSockets::new(rt, rt.alloc())?;
@@ -79,6 +90,6 @@ pub fn play(rt: &HostRuntime) -> io::Result<()> {
         return print!(rt; "the port is taken\n");
     }
     rest(rt, &mut sockets)?;
-    visit(rt, &mut sockets)?;
-    end(rt, &mut sockets)
+    let mut stage = Stage::new(rt, sockets);
+    play_client(&mut stage)
 }

@@ -1,8 +1,7 @@
 use crate::buffers_shown::put_groups;
 use crate::lines_shown::put_lines;
 use crate::nicks_shown::put_nicks;
-use std::alloc::{AllocError, Global};
-use wc_notation::put_quoted;
+use wc_notation::Sheet;
 use wc_text::{Handle, Pair};
 use wc_view::Mirror;
 
@@ -15,41 +14,37 @@ pub fn visible(is: bool) -> &'static str {
 }
 
 /// Writes a text between `<` and `>`, after a blank.
-pub fn put_text(out: &mut String, bytes: &[u8]) -> Result<(), AllocError> {
-    out.push(' ')?;
-    put_quoted(out, bytes)
+pub fn put_text(out: &mut Sheet, bytes: &[u8]) {
+    out.put(" ");
+    out.put_quoted(bytes);
 }
 
 /// Writes a name and its value, after a blank.
-pub fn put_pair(out: &mut String, pair: &Pair) -> Result<(), AllocError> {
-    put_text(out, pair.name.as_slice())?;
-    out.push('=')?;
-    put_quoted(out, pair.value.as_slice())
+pub fn put_pair(out: &mut Sheet, pair: &Pair) {
+    put_text(out, pair.name.as_slice());
+    out.put("=");
+    out.put_quoted(pair.value.as_slice());
 }
 
-fn put_each_nicklist(out: &mut String, mirror: &Mirror) -> Result<(), AllocError> {
+fn put_each_nicklist(out: &mut Sheet, mirror: &Mirror) {
     for number in 0..=HIGHEST {
-        put_nicks(out, mirror, Handle(number))?;
+        put_nicks(out, mirror, Handle(number));
     }
-    Ok(())
 }
 
-fn put_each_lines(out: &mut String, mirror: &Mirror) -> Result<(), AllocError> {
+fn put_each_lines(out: &mut Sheet, mirror: &Mirror) {
     if mirror.lines(Handle(0)).is_none() {
-        return out.push_str("\n  no lines were taken");
+        return out.put("\n  no lines were taken");
     }
-    out.push_str("\n  lines were taken")?;
+    out.put("\n  lines were taken");
     for number in 0..=HIGHEST {
-        put_lines(out, mirror, Handle(number))?;
+        put_lines(out, mirror, Handle(number));
     }
-    Ok(())
 }
 
-/// What a mirror holds, in lines of which each comes after a line feed.
-pub fn copy_of(alloc: Global, mirror: &Mirror) -> Result<String, AllocError> {
-    let mut out = String::new(alloc);
-    put_groups(&mut out, mirror)?;
-    put_each_lines(&mut out, mirror)?;
-    put_each_nicklist(&mut out, mirror)?;
-    Ok(out)
+/// Writes what a mirror holds, in lines of which each comes after a line feed.
+pub fn put_mirror(out: &mut Sheet, mirror: &Mirror) {
+    put_groups(out, mirror);
+    put_each_lines(out, mirror);
+    put_each_nicklist(out, mirror);
 }

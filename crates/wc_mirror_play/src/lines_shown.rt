@@ -1,52 +1,55 @@
 use crate::copy::{put_text, visible};
-use std::alloc::AllocError;
+use wc_notation::Sheet;
 use wc_text::Handle;
 use wc_view::{Mirror, PackedMirrorLine};
 
-fn put_marks(out: &mut String, line: &PackedMirrorLine) -> Result<(), AllocError> {
+fn put_dates(out: &mut Sheet, line: &PackedMirrorLine) {
     let date = line.date();
     let printed = line.date_printed();
-    write!(out, " date {date} printed {printed}")?;
-    write!(
-        out,
-        " {} level {}",
-        visible(line.displayed()),
-        line.notify()
-    )?;
-    if line.highlight() {
-        out.push_str(" highlight")?;
-    }
-    Ok(())
+    let written = write!(out.text, " date {date} printed {printed}");
+    out.note(written);
 }
 
-fn put_tags(out: &mut String, line: &PackedMirrorLine) -> Result<(), AllocError> {
+fn put_marks(out: &mut Sheet, line: &PackedMirrorLine) {
+    let visible = visible(line.displayed());
+    let level = line.notify();
+    let written = write!(out.text, " {visible} level {level}");
+    out.note(written);
+    out.put_either(line.highlight(), " highlight", "");
+}
+
+fn put_tags(out: &mut Sheet, line: &PackedMirrorLine) {
     for tag in line.tags() {
-        out.push_str(" tag")?;
-        put_text(out, tag)?;
+        out.put_named(" tag", tag);
     }
-    Ok(())
 }
 
-fn put_line(out: &mut String, line: &PackedMirrorLine) -> Result<(), AllocError> {
-    write!(out, "\n    line {:x}:", line.content().0)?;
-    put_text(out, line.prefix())?;
-    put_text(out, line.message())?;
-    put_marks(out, line)?;
-    put_tags(out, line)
+fn put_line(out: &mut Sheet, line: &PackedMirrorLine) {
+    let written = write!(out.text, "\n    line {:x}:", line.content().0);
+    out.note(written);
+    put_text(out, line.prefix());
+    put_text(out, line.message());
+    put_dates(out, line);
+    put_marks(out, line);
+    put_tags(out, line);
+}
+
+fn put_title(out: &mut Sheet, buffer: Handle) {
+    let written = write!(out.text, "\n  lines of buffer {:x}", buffer.0);
+    out.note(written);
 }
 
 /// Writes the lines of a buffer, where it has some.
-pub fn put_lines(out: &mut String, mirror: &Mirror, buffer: Handle) -> Result<(), AllocError> {
+pub fn put_lines(out: &mut Sheet, mirror: &Mirror, buffer: Handle) {
     let Some(lines) = mirror.lines(buffer) else {
-        return Ok(());
+        return;
     };
     let mut is_first = true;
     for line in lines {
         if is_first {
-            write!(out, "\n  lines of buffer {:x}", buffer.0)?;
+            put_title(out, buffer);
             is_first = false;
         }
-        put_line(out, line)?;
+        put_line(out, line);
     }
-    Ok(())
 }

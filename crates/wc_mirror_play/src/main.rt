@@ -23,13 +23,13 @@ mod stage;
 
 use play::play;
 use std::{env, fs, io};
+use wc_notation::Sheet;
 
 fn print_play(rt: &HostRuntime, name: &str) -> io::Result<()> {
     let text = fs::read_to_string(rt, name)?;
-    match play(rt.alloc(), text.as_str()) {
-        Ok(answers) => print!(rt; "== {name}\n{answers}"),
-        Err(wrong) => print!(rt; "== {name}\n! {}\n", wrong.as_str()),
-    }
+    let mut out = Sheet::new(rt.alloc());
+    play(rt.alloc(), text.as_str(), &mut out);
+    print!(rt; "== {name}\n{}", out.read())
 }
 
 fn main(rt: HostRuntime) -> io::Result<()> {

@@ -56,8 +56,3 @@ pub fn front(alloc: Global, rest: &str) -> Result<Text, Wrong> {
     let whole = message(alloc, words)?;
     cut(alloc, whole.as_slice(), count)
 }
-
-/// The bytes that a text writes.
-pub fn plain(alloc: Global, rest: &str) -> Result<Text, Wrong> {
-    unescape(alloc, rest)
-}

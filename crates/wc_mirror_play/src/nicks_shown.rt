@@ -1,6 +1,6 @@
 use crate::copy::{put_text, visible};
-use std::alloc::AllocError;
 use wc_nicklist::{Item, Nicklist, RowView};
+use wc_notation::Sheet;
 use wc_text::Handle;
 use wc_view::Mirror;
 
@@ -9,48 +9,45 @@ fn kind(item: &Item) -> &'static str {
     if item.is_group { "group" } else { "nick" }
 }
 
-fn put_colors(out: &mut String, item: &Item) -> Result<(), AllocError> {
-    out.push_str(" color")?;
-    put_text(out, item.color.as_slice())?;
-    out.push_str(" prefix")?;
-    put_text(out, item.prefix.as_slice())?;
-    put_text(out, item.prefix_color.as_slice())
+fn put_name(out: &mut Sheet, item: &Item) {
+    let written = write!(out.text, "\n    {} {:x}:", kind(item), item.handle.0);
+    out.note(written);
+    put_text(out, item.name.as_slice());
 }
 
-fn put_name(out: &mut String, item: &Item) -> Result<(), AllocError> {
-    write!(out, "\n    {} {:x}:", kind(item), item.handle.0)?;
-    put_text(out, item.name.as_slice())
+fn put_marks(out: &mut Sheet, item: &Item) {
+    let written = write!(out.text, " {} level {}", visible(item.visible), item.level);
+    out.note(written);
+    out.put_named(" color", item.color.as_slice());
+    out.put_named(" prefix", item.prefix.as_slice());
+    put_text(out, item.prefix_color.as_slice());
 }
 
-fn put_marks(out: &mut String, item: &Item) -> Result<(), AllocError> {
-    write!(out, " {} level {}", visible(item.visible), item.level)?;
-    put_colors(out, item)
+fn put_row(out: &mut Sheet, row: &RowView<'_>) {
+    put_name(out, row.item());
+    out.put_named(" in", row.parent());
+    put_marks(out, row.item());
 }
 
-fn put_row(out: &mut String, row: &RowView<'_>) -> Result<(), AllocError> {
-    put_name(out, row.item())?;
-    out.push_str(" in")?;
-    put_text(out, row.parent())?;
-    put_marks(out, row.item())
-}
-
-fn put_list(out: &mut String, buffer: Handle, list: &Nicklist) -> Result<(), AllocError> {
-    write!(
-        out,
+fn put_title(out: &mut Sheet, buffer: Handle, root: Handle) {
+    let written = write!(
+        out.text,
         "\n  nicklist of buffer {:x}, root {:x}",
-        buffer.0,
-        list.root().0
-    )?;
+        buffer.0, root.0
+    );
+    out.note(written);
+}
+
+fn put_list(out: &mut Sheet, buffer: Handle, list: &Nicklist) {
+    put_title(out, buffer, list.root());
     for row in list.rows() {
-        put_row(out, &row)?;
+        put_row(out, &row);
     }
-    Ok(())
 }
 
 /// Writes the nicklist of a buffer, where it is there.
-pub fn put_nicks(out: &mut String, mirror: &Mirror, buffer: Handle) -> Result<(), AllocError> {
-    match mirror.nicks(buffer) {
-        Some(list) => put_list(out, buffer, list),
-        None => Ok(()),
+pub fn put_nicks(out: &mut Sheet, mirror: &Mirror, buffer: Handle) {
+    if let Some(list) = mirror.nicks(buffer) {
+        put_list(out, buffer, list);
     }
 }

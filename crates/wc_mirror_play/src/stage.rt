@@ -1,8 +1,8 @@
 ghost use Rattle.std.specs.Prelude.{◌≤◌};
 
-use crate::copy::copy_of;
-use std::alloc::{AllocError, Global};
-use wc_notation::Wrong;
+use crate::copy::put_mirror;
+use std::alloc::Global;
+use wc_notation::Sheet;
 use wc_text::{NoMemory, Text};
 use wc_view::{Mirror, MirrorRefused};
 
@@ -26,53 +26,58 @@ fn new_mirror(alloc: Global, limit: u32) -> Result<Mirror, NoMemory>
 #[derive(Drop)]
 pub struct Stage {
     mirror: Mirror,
-    shown: String,
+    shown: Sheet,
 }
 
-fn put_taken(out: &mut String, taken: Result<usize, MirrorRefused>) -> Result<(), AllocError> {
+fn put_size(out: &mut Sheet, size: usize) {
+    let written = write!(out.text, "took {size} bytes");
+    out.note(written);
+}
+
+fn put_refused(out: &mut Sheet, refused: MirrorRefused) {
+    let written = write!(out.text, "refused: {refused}");
+    out.note(written);
+}
+
+fn put_taken(out: &mut Sheet, taken: Result<usize, MirrorRefused>) {
     match taken {
-        Ok(0) => out.push_str("bytes are missing"),
-        Ok(size) => write!(out, "took {size} bytes"),
-        Err(refused) => write!(out, "refused: {refused}"),
+        Ok(0) => out.put("bytes are missing"),
+        Ok(size) => put_size(out, size),
+        Err(refused) => put_refused(out, refused),
     }
 }
 
 /// Writes a copy where it is another than that which was shown last.
-fn put_copy(out: &mut String, shown: &mut String, copy: String) -> Result<(), AllocError> {
-    if copy.as_str() == shown.as_str() {
-        return out.push_str("\n  the copy stays as it was");
+fn put_copy(out: &mut Sheet, shown: &mut Sheet, copy: Sheet) {
+    if copy.read() == shown.read() {
+        return out.put("\n  the copy stays as it was");
     }
-    out.push_str(copy.as_str())?;
+    out.put(copy.read());
     *shown = copy;
-    Ok(())
 }
 
 impl Stage {
     pub fn new(alloc: Global) -> Result<Stage, NoMemory> {
         Ok(Stage {
             mirror: new_mirror(alloc, FIRST_LIMIT)?,
-            shown: String::new(alloc),
+            shown: Sheet::new(alloc),
         })
-    }
-
-    fn put_mirror(&mut self, mirror: Mirror) {
-        self.mirror = mirror;
-        self.shown.clear();
     }
 
     /// Begins anew.
     pub fn renew(&mut self, alloc: Global, limit: u32) -> Result<(), NoMemory>
         requires { 1 ≤ limit }
     {
-        let mirror = new_mirror(alloc, limit)?;
-        self.put_mirror(mirror);
+        self.mirror = new_mirror(alloc, limit)?;
+        self.shown = Sheet::new(alloc);
         Ok(())
     }
 
     /// Gives bytes to the mirror, and writes what it answers and the copy after it.
-    pub fn take(&mut self, alloc: Global, bytes: &[u8], out: &mut String) -> Result<(), Wrong> {
-        put_taken(out, self.mirror.take(alloc, bytes))?;
-        let copy = copy_of(alloc, &self.mirror)?;
-        Ok(put_copy(out, &mut self.shown, copy)?)
+    pub fn take(&mut self, alloc: Global, bytes: &[u8], out: &mut Sheet) {
+        put_taken(out, self.mirror.take(alloc, bytes));
+        let mut copy = Sheet::new(alloc);
+        put_mirror(&mut copy, &self.mirror);
+        put_copy(out, &mut self.shown, copy);
     }
 }

@@ -13,6 +13,7 @@
 mod escapes;
 mod lists;
 mod objects;
+mod sheet;
 mod shown;
 mod turns;
 mod values;
@@ -20,6 +21,7 @@ mod wrong;
 
 pub use escapes::{escape, put_either, put_named, put_quoted, unescape};
 pub use objects::read_objects;
+pub use sheet::Sheet;
 pub use shown::show_objects;
 pub use turns::{cut_word, end_answer, is_passed_over, two_texts};
 pub use wrong::Wrong;

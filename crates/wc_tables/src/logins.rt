@@ -2,8 +2,8 @@
 
 ghost use Rattle.std.specs.Prelude.{◌≤◌, IfOk};
 
-use std::alloc::{AllocError, Global};
-use wc_notation::{Wrong, cut_word, put_either, two_texts, unescape};
+use std::alloc::Global;
+use wc_notation::{Sheet, Wrong, cut_word, two_texts, unescape};
 use wc_relaycmd::{
     Algorithm, Command, Login, Request, check_login, choose_algorithm, pbkdf2_sha256,
     pbkdf2_sha512, read_login, read_request,
@@ -52,41 +52,43 @@ fn read_wanted(alloc: Global, text: &str) -> Result<(Wanted, &str), Wrong> {
     Ok((wanted, line))
 }
 
-fn put_decision(out: &mut String, wanted: &Wanted, login: &Login) -> Result<(), AllocError> {
+fn put_decision(out: &mut Sheet, wanted: &Wanted, login: &Login) {
     let password = wanted.password.as_slice();
     let is_in = check_login(login, password, &wanted.nonce, wanted.chosen);
-    put_either(out, is_in, "let in", "kept out")
+    out.put_either(is_in, "let in", "kept out");
 }
 
-fn put_login(
-    alloc: Global,
-    wanted: &Wanted,
-    pairs: &Items<Pair>,
-    out: &mut String,
-) -> Result<(), Wrong> {
-    match read_login(alloc, pairs)? {
-        Some(login) => Ok(put_decision(out, wanted, &login)?),
-        None => Ok(out.push_str("no login")?),
+fn put_outcome(out: &mut Sheet, wanted: &Wanted, login: &Result<Option<Login>, NoMemory>) {
+    match login {
+        Ok(Some(login)) => put_decision(out, wanted, login),
+        Ok(None) => out.put("no login"),
+        Err(NoMemory) => out.lack(),
     }
+}
+
+fn put_login(alloc: Global, wanted: &Wanted, pairs: &Items<Pair>, out: &mut Sheet) {
+    let login = read_login(alloc, pairs);
+    put_outcome(out, wanted, &login);
 }
 
 fn put_command(
     alloc: Global,
     wanted: &Wanted,
     command: &Command,
-    out: &mut String,
+    out: &mut Sheet,
 ) -> Result<(), Wrong> {
     match command {
         Command::Init(pairs) => put_login(alloc, wanted, pairs, out),
-        _ => Err(Wrong::Word),
+        _ => return Err(Wrong::Word),
     }
+    Ok(())
 }
 
 fn put_reading(
     alloc: Global,
     wanted: &Wanted,
     request: &Result<Option<Request>, NoMemory>,
-    out: &mut String,
+    out: &mut Sheet,
 ) -> Result<(), Wrong> {
     match request {
         Ok(Some(request)) => put_command(alloc, wanted, &request.command, out),
@@ -95,45 +97,47 @@ fn put_reading(
     }
 }
 
-fn put_line(alloc: Global, wanted: &Wanted, line: &[u8], out: &mut String) -> Result<(), Wrong> {
+fn put_line(alloc: Global, wanted: &Wanted, line: &[u8], out: &mut Sheet) -> Result<(), Wrong> {
     let request = read_request(alloc, line, false);
     put_reading(alloc, wanted, &request, out)
 }
 
-fn put_text(alloc: Global, wanted: &Wanted, text: &str, out: &mut String) -> Result<(), Wrong> {
+fn put_text(alloc: Global, wanted: &Wanted, text: &str, out: &mut Sheet) -> Result<(), Wrong> {
     let line = unescape(alloc, text)?;
     put_line(alloc, wanted, line.as_slice(), out)
 }
 
 /// Whether the line of a client is let in, after the algorithm, the nonce and the password.
-pub fn login(alloc: Global, rest: &str, out: &mut String) -> Result<(), Wrong> {
+pub fn login(alloc: Global, rest: &str, out: &mut Sheet) -> Result<(), Wrong> {
     let (wanted, line) = read_wanted(alloc, rest)?;
     put_text(alloc, &wanted, line, out)
 }
 
-fn put_algorithm(out: &mut String, chosen: Option<Algorithm>) -> Result<(), AllocError> {
-    match chosen {
-        Some(Algorithm::Plain) => out.push_str("plain"),
-        Some(Algorithm::Sha256) => out.push_str("sha256"),
-        Some(Algorithm::Sha512) => out.push_str("sha512"),
-        Some(Algorithm::Pbkdf2Sha256) => out.push_str("pbkdf2+sha256"),
-        Some(Algorithm::Pbkdf2Sha512) => out.push_str("pbkdf2+sha512"),
-        None => out.push_str("none in common"),
+fn algorithm_name(algorithm: Algorithm) -> &'static str {
+    match algorithm {
+        Algorithm::Plain => "plain",
+        Algorithm::Sha256 => "sha256",
+        Algorithm::Sha512 => "sha512",
+        Algorithm::Pbkdf2Sha256 => "pbkdf2+sha256",
+        Algorithm::Pbkdf2Sha512 => "pbkdf2+sha512",
     }
 }
 
 /// The algorithm that is chosen of those that a client offers and those that are allowed.
-pub fn algorithm(alloc: Global, rest: &str, out: &mut String) -> Result<(), Wrong> {
+pub fn algorithm(alloc: Global, rest: &str, out: &mut Sheet) -> Result<(), Wrong> {
     let (offered, allowed) = two_texts(alloc, rest)?;
-    let chosen = choose_algorithm(offered.as_slice(), allowed.as_slice());
-    Ok(put_algorithm(out, chosen)?)
-}
-
-fn put_digits(out: &mut String, bytes: &[u8]) -> Result<(), AllocError> {
-    for byte in bytes {
-        write!(out, "{byte:02x}")?;
+    match choose_algorithm(offered.as_slice(), allowed.as_slice()) {
+        Some(chosen) => out.put(algorithm_name(chosen)),
+        None => out.put("none in common"),
     }
     Ok(())
+}
+
+fn put_digits(out: &mut Sheet, bytes: &[u8]) {
+    for byte in bytes {
+        let written = write!(out.text, "{byte:02x}");
+        out.note(written);
+    }
 }
 
 fn rounds_of(word: &str) -> Result<u32, Wrong>
@@ -145,17 +149,28 @@ fn rounds_of(word: &str) -> Result<u32, Wrong>
     }
 }
 
+fn put_key(
+    out: &mut Sheet,
+    hash: &str,
+    password: &[u8],
+    salt: &[u8],
+    rounds: u32,
+) -> Result<(), Wrong>
+    requires { 1 ≤ rounds }
+{
+    match hash {
+        "sha256" => put_digits(out, &pbkdf2_sha256(password, salt, rounds)),
+        "sha512" => put_digits(out, &pbkdf2_sha512(password, salt, rounds)),
+        _ => return Err(Wrong::Word),
+    }
+    Ok(())
+}
+
 /// The key of a password and a salt in so many rounds, in hex.
-pub fn key(alloc: Global, rest: &str, out: &mut String) -> Result<(), Wrong> {
+pub fn key(alloc: Global, rest: &str, out: &mut Sheet) -> Result<(), Wrong> {
     let (hash, following) = cut_word(rest);
     let (count, texts) = cut_word(following);
     let rounds = rounds_of(count)?;
     let (password, salt) = two_texts(alloc, texts)?;
-    let (password, salt) = (password.as_slice(), salt.as_slice());
-    match hash {
-        "sha256" => put_digits(out, &pbkdf2_sha256(password, salt, rounds))?,
-        "sha512" => put_digits(out, &pbkdf2_sha512(password, salt, rounds))?,
-        _ => return Err(Wrong::Word),
-    }
-    Ok(())
+    put_key(out, hash, password.as_slice(), salt.as_slice(), rounds)
 }

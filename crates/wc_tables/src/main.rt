@@ -16,21 +16,23 @@ mod texts;
 use play::play;
 use std::alloc::Global;
 use std::{env, fs, io};
-use wc_notation::Wrong;
+use wc_notation::Sheet;
 use wc_options::Options;
+use wc_text::NoMemory;
 
-/// What a table comes to.
-fn play_text(alloc: Global, text: &str) -> Result<String, Wrong> {
-    let mut options = Options::new(alloc)?;
-    play(alloc, &mut options, text)
+/// Writes what a table comes to.
+fn put_played(alloc: Global, text: &str, out: &mut Sheet) {
+    match Options::new(alloc) {
+        Ok(mut options) => play(alloc, &mut options, text, out),
+        Err(NoMemory) => out.lack(),
+    }
 }
 
 fn print_table(rt: &HostRuntime, name: &str) -> io::Result<()> {
     let text = fs::read_to_string(rt, name)?;
-    match play_text(rt.alloc(), text.as_str()) {
-        Ok(answers) => print!(rt; "== {name}\n{answers}"),
-        Err(wrong) => print!(rt; "== {name}\n! {}\n", wrong.as_str()),
-    }
+    let mut out = Sheet::new(rt.alloc());
+    put_played(rt.alloc(), text.as_str(), &mut out);
+    print!(rt; "== {name}\n{}", out.read())
 }
 
 fn main(rt: HostRuntime) -> io::Result<()> {

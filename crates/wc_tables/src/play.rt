@@ -1,10 +1,10 @@
 use crate::{irc, objects, options, requests, texts};
-use std::alloc::{AllocError, Global};
-use wc_notation::{Wrong, cut_word, end_answer, is_passed_over};
+use std::alloc::Global;
+use wc_notation::{Sheet, Wrong, cut_word, is_passed_over};
 use wc_options::Options;
 
 /// Writes the answer of a line, which names a part, a call of it, and its texts.
-fn answer(alloc: Global, options: &mut Options, line: &str, out: &mut String) -> Result<(), Wrong> {
+fn answer(alloc: Global, options: &mut Options, line: &str, out: &mut Sheet) -> Result<(), Wrong> {
     let (part, following) = cut_word(line);
     let (call, rest) = cut_word(following);
     match part {
@@ -18,25 +18,18 @@ fn answer(alloc: Global, options: &mut Options, line: &str, out: &mut String) ->
 }
 
 /// Writes a line and its answer.
-fn turn(
-    alloc: Global,
-    options: &mut Options,
-    line: &str,
-    out: &mut String,
-) -> Result<(), AllocError> {
+fn turn(alloc: Global, options: &mut Options, line: &str, out: &mut Sheet) {
     if is_passed_over(line) {
-        return Ok(());
+        return;
     }
-    write!(out, "> {line}\n")?;
+    out.begin_answer(line);
     let answered = answer(alloc, options, line, out);
-    end_answer(out, answered)
+    out.end_answer(answered);
 }
 
-/// The lines of a table, each with its answer.
-pub fn play(alloc: Global, options: &mut Options, text: &str) -> Result<String, Wrong> {
-    let mut out = String::new(alloc);
+/// Writes the lines of a table, each with its answer.
+pub fn play(alloc: Global, options: &mut Options, text: &str, out: &mut Sheet) {
     for line in text.lines() {
-        turn(alloc, options, line, &mut out)?;
+        turn(alloc, options, line, out);
     }
-    Ok(out)
 }
