@@ -57,12 +57,14 @@ def refusal(lines, function):
     # a closure of F is named fn::F::..
     named = {name.replace("::fn::", "::"): goals for name, goals in open_goals(lines).items()}
     goals = [it for name, its in named.items() if f"{name}::".startswith(f"{function}::") for it in its]
-    if goals:
-        return f"refused by {function}#{', '.join(goals)}"
     *above, name = function.split("::")[1:]
     own = re.compile(rf"(?:\./)?proofs/{''.join(f'{it}/' for it in above)}({name}|\+\w+)/\S+: error: (.*)")
     errors = [it[2] for it in (own.match(line.replace("/fn/", "/")) for line in lines) if it]
     real = [it for it in errors if not NAMES.search(it)]
+    if goals:
+        # an answer whose goal got another name leaves a goal open that is true
+        doubt = "" if len(real) == len(errors) else " (LOOK: names are unknown in its proof file too)"
+        return f"refused by {function}#{', '.join(goals)}{doubt}"
     if real:
         return f"refused by {function}: {real[0][:120]}"
     return f"BAD EDIT: only names are unknown in a proof file of {function}: {errors[0]}" if errors else ""
