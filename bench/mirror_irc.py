@@ -174,7 +174,7 @@ class Server:
 
 def connected(words, server):
     """A client that follows, and has had the program connect to the server."""
-    client = Follower(words.port, words.password, words.limit)
+    client = Follower.plain(words.port, words.password, words.limit)
     client.send("input core.weechat /server add random 127.0.0.1/%d -notls" % server.port)
     client.send("input core.weechat /connect random")
     server.accept()
@@ -196,7 +196,7 @@ def names_on(client, channel):
 
 
 def compare(words, clients, server, round):
-    fresh = Follower(words.port, words.password, words.limit)
+    fresh = Follower.plain(words.port, words.password, words.limit)
     for channel in CHANNELS:
         if names_on(fresh, channel) != server.names_told(channel):
             sys.exit("round %d: the nicks of %s are not the server's" % (round, channel))
@@ -225,7 +225,7 @@ def main():
     deaf = silent(words)
     for round in range(words.rounds):
         if round == words.rounds // 2:
-            clients.append(Follower(words.port, words.password, words.limit))
+            clients.append(Follower.plain(words.port, words.password, words.limit))
         for _ in range(words.lines):
             server.draw(dice)
         server.settle()
