@@ -25,10 +25,10 @@ use Rattle.wc_core.specs.Inputs.{MakesChange, RefusesChange}
 use Rattle.wc_core.specs.Resolved.{refusal_text}
 use Rattle.wc_core.specs.ServerSteps.{say_step, told_step_if, try_step, on_step}
 use Rattle.wc_core.specs.State.{State, Stepped}
-use Rattle.wc_core.specs.Served.{state_of, FollowsUnlessStarved, Does}
-use Rattle.wc_core.proofs.DidLemmas.{Does-stays, Does-starved}
-use Rattle.wc_core.proofs.ChainLemmas.{Does-as}
-use Rattle.wc_core.proofs.PushLemmas.{Does-over}
+use Rattle.wc_core.proofs.ChainLemmas.{Runs-as}
+use Rattle.wc_core.proofs.PushLemmas.{Runs-over}
+use Rattle.wc_core.specs.Contained.{state_with, RunsAt, Runs}
+use Rattle.wc_core.proofs.RunLemmas.{Runs-starved, Runs-stays}
 
 -- ---- texts
 
@@ -106,41 +106,41 @@ change_text (what.ChangeNick item) e = item_text item e
 -- ---- changes
 
 -- a change that is made, whether its refusal would be told or not
-made-as : (old new : CoreView) (change : Change) (step : State → Option ChangeRefused → Stepped) → ((state : State) → change_step_if state change None ≡ step state None) → MakesChange old change new → Does old new (λ state. step state (refusal state.world change))
+made-as : (old new : CoreView) (change : Change) (step : State → Option ChangeRefused → Stepped) → ((state : State) → change_step_if state change None ≡ step state None) → MakesChange old change new → Runs old new (λ state. step state (refusal state.world change))
 made-as old new change step same (inl made) = λ told.
-    let P : Option ChangeRefused → Type 0 = λ o. FollowsUnlessStarved told old new (step (state_of old told) o) in
-    let Q : Stepped → Type 0 = λ stepped. FollowsUnlessStarved told old new stepped in
-    subst P (sym made.0) (subst Q (same (state_of old told)) (made.1 told))
-made-as old new change step same (inr starves) = Does-starved old new (λ state. step state (refusal state.world change)) starves
+    let P : Option ChangeRefused → Type 0 = λ o. RunsAt told old new (step (state_with old told) o) in
+    let Q : Stepped → Type 0 = λ stepped. RunsAt told old new stepped in
+    subst P (sym made.0) (subst Q (same (state_with old told)) (made.1 told))
+made-as old new change step same (inr starves) = Runs-starved old new (λ state. step state (refusal state.world change)) starves
 
-pub tells-made : (old new : CoreView) (change : Change) → MakesChange old change new → Does old new (λ state. told_step_if state change (refusal state.world change))
+pub tells-made : (old new : CoreView) (change : Change) → MakesChange old change new → Runs old new (λ state. told_step_if state change (refusal state.world change))
 tells-made old new change made = made-as old new change (λ state o. told_step_if state change o) (λ state. refl) made
 
-pub passes-made : (old new : CoreView) (change : Change) → MakesChange old change new → Does old new (λ state. change_step_if state change (refusal state.world change))
+pub passes-made : (old new : CoreView) (change : Change) → MakesChange old change new → Runs old new (λ state. change_step_if state change (refusal state.world change))
 passes-made old new change made = made-as old new change (λ state o. change_step_if state change o) (λ state. refl) made
 
 -- one whose refusal is told
-pub tells-refused : (old mid new : CoreView) (change : Change) (reason : ChangeRefused) (text : List ℕ) → RefusesChange old change reason mid → text ≡ refusal_text reason → Does mid new (λ state. say_step state text)
-    → Does old new (λ state. told_step_if state change (refusal state.world change))
+pub tells-refused : (old mid new : CoreView) (change : Change) (reason : ChangeRefused) (text : List ℕ) → RefusesChange old change reason mid → text ≡ refusal_text reason → Runs mid new (λ state. say_step state text)
+    → Runs old new (λ state. told_step_if state change (refusal state.world change))
 tells-refused old mid new change reason text refuses e done = λ told.
-    let P : Option ChangeRefused → Type 0 = λ o. FollowsUnlessStarved told old new (told_step_if (state_of old told) change o) in
-    let Q : List ℕ → Type 0 = λ t. FollowsUnlessStarved told old new (say_step (state_of old told) t) in
-    subst P (sym refuses.refused) (subst Q e (Does-over old mid new (λ state. say_step state text) refuses.stays refuses.touches done told))
+    let P : Option ChangeRefused → Type 0 = λ o. RunsAt told old new (told_step_if (state_with old told) change o) in
+    let Q : List ℕ → Type 0 = λ t. RunsAt told old new (say_step (state_with old told) t) in
+    subst P (sym refuses.refused) (subst Q e (Runs-over old mid new (λ state. say_step state text) refuses.stays refuses.touches done told))
 
 -- one that is refused and passed over
-pub passes-refused : (old new : CoreView) (change : Change) (reason : ChangeRefused) → RefusesChange old change reason new → Does old new (λ state. change_step_if state change (refusal state.world change))
+pub passes-refused : (old new : CoreView) (change : Change) (reason : ChangeRefused) → RefusesChange old change reason new → Runs old new (λ state. change_step_if state change (refusal state.world change))
 passes-refused old new change reason refuses = λ told.
-    let P : Option ChangeRefused → Type 0 = λ o. FollowsUnlessStarved told old new (change_step_if (state_of old told) change o) in
-    subst P (sym refuses.refused) (Does-over old new new no_step refuses.stays refuses.touches (Does-stays new) told)
+    let P : Option ChangeRefused → Type 0 = λ o. RunsAt told old new (change_step_if (state_with old told) change o) in
+    subst P (sym refuses.refused) (Runs-over old new new no_step refuses.stays refuses.touches (Runs-stays new) told)
 
-pub passes : (old new : CoreView) (change : Change) (o : Option ChangeRefused) → (o ≡ None → MakesChange old change new) → IfSome o (λ reason. RefusesChange old change reason new) → Does old new (λ state. change_step_if state change (refusal state.world change))
+pub passes : (old new : CoreView) (change : Change) (o : Option ChangeRefused) → (o ≡ None → MakesChange old change new) → IfSome o (λ reason. RefusesChange old change reason new) → Runs old new (λ state. change_step_if state change (refusal state.world change))
 passes old new change None made refused = passes-made old new change (made refl)
 passes old new change (Some reason) made refused = passes-refused old new change reason refused
 
 -- ---- what is chosen by a test
 
-pub chosen : (old new : CoreView) (test b : Bool) (one other : State → Stepped) → test ≡ b → Does old new (λ state. cond b (one state) (other state)) → Does old new (λ state. cond test (one state) (other state))
-chosen old new test b one other e done = Does-as old new (λ state. cond b (one state) (other state)) (λ state. cond test (one state) (other state)) (λ told. ap (λ t. cond t (one (state_of old told)) (other (state_of old told))) (sym e)) done
+pub chosen : (old new : CoreView) (test b : Bool) (one other : State → Stepped) → test ≡ b → Runs old new (λ state. cond b (one state) (other state)) → Runs old new (λ state. cond test (one state) (other state))
+chosen old new test b one other e done = Runs-as old new (λ state. cond b (one state) (other state)) (λ state. cond test (one state) (other state)) (λ told. ap (λ t. cond t (one (state_with old told)) (other (state_with old told))) (sym e)) done
 
 pub utf8_by : (text : List ℕ) (b : Bool) → b ≡ is_utf8 text → b ≡ true → IsUtf8 text
 utf8_by text b e passed = IsUtf8-from_is_utf8 text (sym e ∙ passed)
@@ -148,29 +148,29 @@ utf8_by text b e passed = IsUtf8-from_is_utf8 text (sym e ∙ passed)
 pub text_by : (w : What) (b : Bool) → b ≡ is_change_text w → b ≡ true → IsChangeText w
 text_by w b e passed = change_text w (sym e ∙ passed)
 
-pub says-not : (old : CoreView) (text : List ℕ) (b : Bool) → b ≡ is_utf8 text → b ≡ false → Does old old (λ state. say_step state text)
-says-not old text b e failed = chosen old old (is_utf8 text) false (λ state. refusal_step state text) no_step (sym e ∙ failed) (Does-stays old)
+pub says-not : (old : CoreView) (text : List ℕ) (b : Bool) → b ≡ is_utf8 text → b ≡ false → Runs old old (λ state. say_step state text)
+says-not old text b e failed = chosen old old (is_utf8 text) false (λ state. refusal_step state text) no_step (sym e ∙ failed) (Runs-stays old)
 
-pub says-told : (old new : CoreView) (text : List ℕ) (b : Bool) → b ≡ is_utf8 text → b ≡ true → Does old new (λ state. refusal_step state text) → Does old new (λ state. say_step state text)
+pub says-told : (old new : CoreView) (text : List ℕ) (b : Bool) → b ≡ is_utf8 text → b ≡ true → Runs old new (λ state. refusal_step state text) → Runs old new (λ state. say_step state text)
 says-told old new text b e passed done = chosen old new (is_utf8 text) true (λ state. refusal_step state text) no_step (sym e ∙ passed) done
 
 abbrev tried : Bool → Change → State → Stepped
 tried tells change state = cond tells (told_step_if state change (refusal state.world change)) (change_step_if state change (refusal state.world change))
 
-pub tries-not : (old : CoreView) (tells : Bool) (change : Change) (b : Bool) → b ≡ is_change_text change.what → b ≡ false → Does old old (λ state. try_step tells state change)
-tries-not old tells change b e failed = chosen old old (is_change_text change.what) false (tried tells change) no_step (sym e ∙ failed) (Does-stays old)
+pub tries-not : (old : CoreView) (tells : Bool) (change : Change) (b : Bool) → b ≡ is_change_text change.what → b ≡ false → Runs old old (λ state. try_step tells state change)
+tries-not old tells change b e failed = chosen old old (is_change_text change.what) false (tried tells change) no_step (sym e ∙ failed) (Runs-stays old)
 
-pub tries-told : (old new : CoreView) (tells : Bool) (change : Change) (b : Bool) → b ≡ is_change_text change.what → b ≡ true → tells ≡ true → Does old new (λ state. told_step_if state change (refusal state.world change)) → Does old new (λ state. try_step tells state change)
+pub tries-told : (old new : CoreView) (tells : Bool) (change : Change) (b : Bool) → b ≡ is_change_text change.what → b ≡ true → tells ≡ true → Runs old new (λ state. told_step_if state change (refusal state.world change)) → Runs old new (λ state. try_step tells state change)
 tries-told old new tells change b e passed on done =
     chosen old new (is_change_text change.what) true (tried tells change) no_step (sym e ∙ passed)
     (chosen old new tells true (λ state. told_step_if state change (refusal state.world change)) (λ state. change_step_if state change (refusal state.world change)) on done)
 
-pub tries-made : (old new : CoreView) (tells : Bool) (change : Change) (b : Bool) → b ≡ is_change_text change.what → b ≡ true → tells ≡ false → Does old new (λ state. change_step_if state change (refusal state.world change)) → Does old new (λ state. try_step tells state change)
+pub tries-made : (old new : CoreView) (tells : Bool) (change : Change) (b : Bool) → b ≡ is_change_text change.what → b ≡ true → tells ≡ false → Runs old new (λ state. change_step_if state change (refusal state.world change)) → Runs old new (λ state. try_step tells state change)
 tries-made old new tells change b e passed off done =
     chosen old new (is_change_text change.what) true (tried tells change) no_step (sym e ∙ passed)
     (chosen old new tells false (λ state. told_step_if state change (refusal state.world change)) (λ state. change_step_if state change (refusal state.world change)) off done)
 
 -- ---- a buffer that is named
 
-pub passes-none : (old : CoreView) (tells : Bool) (w : What) (name : Option Handle) → None ≡ name → Does old old (λ state. on_step tells state w name)
-passes-none old tells w name e = Does-as old old no_step (λ state. on_step tells state w name) (λ told. ap (on_step tells (state_of old told) w) e) (Does-stays old)
+pub passes-none : (old : CoreView) (tells : Bool) (w : What) (name : Option Handle) → None ≡ name → Runs old old (λ state. on_step tells state w name)
+passes-none old tells w name e = Runs-as old old no_step (λ state. on_step tells state w name) (λ told. ap (on_step tells (state_with old told) w) e) (Runs-stays old)

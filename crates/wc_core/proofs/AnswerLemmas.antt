@@ -1,21 +1,17 @@
 -- What the board does before and at a request, as the core means it.
-use Rattle.std.proofs.Common.{◌≡◌, ℕ, ◌+◌, ◌-◌, ◌^◌, ◌<◌, ◌≤◌, suc, Bool, true, false, cond, eqb, ◌&&◌, List, [], ◌∷◌, inl, inr, ◌⊎◌, Option, Some, None, IfSome, unwrap_or, min, length, filter, ◌++◌, Result, Ok, Err, OnOk, is_err, not, refl, ap, sym, subst, ◌∙◌, arith}
+use Rattle.std.proofs.Common.{◌≡◌, ℕ, ◌+◌, ◌-◌, ◌^◌, ◌<◌, ◌≤◌, suc, Bool, true, false, cond, eqb, ◌&&◌, List, [], ◌∷◌, inr, Option, Some, None, IfSome, unwrap_or, min, length, filter, ◌++◌, Result, Ok, Err, OnOk, is_err, not, refl, ap, sym, subst, ◌∙◌, arith}
 use Rattle.std.specs.Prelude.{map}
 use Rattle.std.proofs.lemmas.Bool.{false≢true}
-use Rattle.wc_text.specs.declared.names.Cause.{Cause}
 use Rattle.wc_text.specs.declared.names.Handle.{Handle}
 use Rattle.wc_text.specs.declared.names.LinkId.{LinkId}
-use Rattle.wc_nickdiff.specs.Held.{touches_of}
-use Rattle.wc_nicklist.specs.declared.item.Row.{Row}
+use Rattle.wc_nickdiff.specs.Held.{OfBuffer, touches_of}
 use Rattle.wc_options.specs.Options.{OptionsValue}
 use Rattle.wc_outside.specs.Keyed.{at_key, put_at}
 use Rattle.wc_outside.proofs.KeyedLemmas.{at_key-put_same, at_key-key}
-use Rattle.wc_buffers.specs.Kept.{AreBuffers}
 use Rattle.wc_model.specs.declared.change.Change.{Change}
 use Rattle.wc_model.specs.declared.notice.Notice.{Notice}
-use Rattle.wc_model.specs.Notices.{Accepted}
 use Rattle.wc_model.specs.Order.{order}
-use Rattle.wc_model.specs.World.{World, rows_at}
+use Rattle.wc_model.specs.World.{World}
 use Rattle.wc_relaycmd.specs.declared.request.Request.{Request}
 use Rattle.wc_relaycmd.specs.Answers.{request_of}
 use Rattle.wc_relaycmd.specs.Utf8.{RequestIsUtf8}
@@ -27,96 +23,97 @@ use Rattle.wc_session.specs.Reply.{reply_of}
 use Rattle.wc_session.specs.Served.{OnServed, AnswersRequest}
 use Rattle.wc_board.specs.declared.connection.Connection.{Connection}
 use Rattle.wc_board.specs.Answered.{is_nicklist, pushes_before, PushedIf, IsPushed, AnsweredIf, AnsweredAt, AnswersAfterPushes, IsUnchanged}
-use Rattle.wc_board.specs.BoardView.{BoardView, NoStrayTouches}
-use Rattle.wc_board.specs.Connections.{connection_link, client_of, is_open, is_open_at, session_at, left_at, new_connection}
+use Rattle.wc_board.specs.BoardView.{BoardView}
+use Rattle.wc_board.specs.Connections.{connection_link, client_of, is_open, is_open_at, session_at, new_connection}
 use Rattle.wc_board.specs.Pushes.{pushed_connection}
 use Rattle.wc_board.specs.Served.{told_connection, ConnectionsKept, ConnectionsServed}
-use Rattle.wc_board.specs.Told.{AreTold, AreTouched}
 use Rattle.wc_core.specs.State.{Beside}
-use Rattle.wc_board.proofs.PushEach.{open_number, number_more, not_more, none_left, all_is}
+use Rattle.wc_board.proofs.PushConnections.{ConnectionsKept-refl}
+use Rattle.wc_board.proofs.PushEach.{open_number, number_more, none_left, all_is}
 use Rattle.wc_text.specs.declared.names.Cause.TheVariants.{Surplus}
 use Rattle.wc_servers.specs.Seats.{ServersView, used_up}
 use Rattle.wc_core.specs.CoreView.{CoreView}
-use Rattle.wc_core.specs.BoardSteps.{board_of}
+use Rattle.wc_core.specs.BoardSteps.{board_of, Keeps}
 use Rattle.wc_core.specs.Inputs.{MakesChange, push_before, AnswersRequestOf}
 use Rattle.wc_core.specs.Limits.{client_limit}
-use Rattle.wc_core.specs.Step.{client_link, no_step, push_step, request_step, line_step, loss_step, arrival_step}
-use Rattle.wc_core.specs.Served.{state_of, Does, AdmitsUnlessStarved, OutcomeUtf8}
-use Rattle.wc_core.proofs.CoreLemmas.{came-surplus, starves-only, starved_only, lost-done, came, changes-all, changes-some, outcome-text, line-missing, line-leaving, line-asked}
-use Rattle.wc_core.proofs.DidLemmas.{Does-stays, KeepsClients-trans}
-use Rattle.wc_core.proofs.PushLemmas.{IsPushedCore, push-done, keeps-touches}
+use Rattle.wc_core.specs.Step.{client_link, no_step, push_step, request_step, line_step, arrival_step}
+use Rattle.wc_core.specs.Served.{AdmitsUnlessStarved, OutcomeUtf8, state_of}
+use Rattle.wc_core.proofs.CoreLemmas.{came-surplus, starves-only, came, changes-some, outcome-text, line-missing, line-leaving, line-asked, MadeOn}
+use Rattle.wc_core.proofs.DidLemmas.{KeepsClients-trans}
+use Rattle.wc_core.proofs.PushLemmas.{IsPushedCore, push-done, keeps-touches, same-told}
 use Rattle.wc_core.proofs.ReplyLemmas.{reply_fits}
+use Rattle.wc_core.specs.Contained.{Counts, starving_number, Runs, RunsHere, beside_in, raised, RunsFor}
+use Rattle.wc_core.proofs.RunLemmas.{Runs-stays}
+use Rattle.wc_core.proofs.CountLemmas.{counts-none, starving_more, AreDropped, counts-dropped, kept_less, raised-by, raised-none, kept_dropped}
+use Rattle.wc_core.proofs.BoardStepLemmas.{by-both, by-one}
 
 -- the core with this board and count
 abbrev pub with_board : CoreView → BoardView → ℕ → CoreView
 with_board core board starved = record core { world = board.world; pending = board.pending; connections = board.connections; starved = starved }
 
--- want of memory was counted, or as many clients are open as before
+-- who was dropped is counted
 abbrev pub Counted : CoreView → List Connection → ℕ → Type 0
-Counted old connections n = ((n ≡ old.starved) × (open_number old.connections ≤ open_number connections)) ⊎ ((n ≡ min (old.starved + 1) (2 ^ 64 - 1)) × (old.starved ≤ n))
+Counted old connections n = (n ≡ raised old.starved (open_number old.connections - open_number connections)) × (old.starved ≤ n)
 
--- the board lets a client leave
-pub lost-by : (old : CoreView) (board : BoardView) (k : ℕ) (why : Cause) → board ≡ record (board_of old) { connections = left_at k why old.connections (at_key connection_link k old.connections) } → Does old (with_board old board old.starved) (λ state. loss_step state k why (at_key client_link k state.clients))
-lost-by old board k why e = let P : BoardView → Type 0 = λ b. Does old (with_board old b old.starved) (λ state. loss_step state k why (at_key client_link k state.clients)) in subst P (sym e) (lost-done old k why)
+-- the count after these connections, where so many were open before
+abbrev pub count_since : CoreView → List Connection → ℕ → ℕ
+count_since old connections before = min (old.starved + (before - open_number connections)) (2 ^ 64 - 1)
+
+pub counted-as : (old : CoreView) (connections : List Connection) (before : ℕ) → before ≡ open_number old.connections → old.starved ≤ count_since old connections before → Counted old connections (count_since old connections before)
+counted-as old connections before same rises =
+    let n = open_number old.connections - open_number connections in
+    let e : count_since old connections before ≡ min (old.starved + n) (2 ^ 64 - 1) = ap (count_since old connections) same in
+    let less : old.starved ≤ min (old.starved + n) (2 ^ 64 - 1) = omega (arith, e, rises) in
+    (e ∙ raised-by old.starved n less, rises)
+
+-- nobody was dropped
+counted-none : (old : CoreView) (n : ℕ) → Counted old old.connections n → n ≡ old.starved
+counted-none old n c = (let none : open_number old.connections - open_number old.connections ≡ 0 = omega arith in c.0 ∙ ap (raised old.starved) none)
 
 -- ---- pushes
 
--- the board made its pushes, or want of memory was counted
-pub push-by : (old : CoreView) (board : BoardView) (n : ℕ) → IsPushed (board_of old) board
-    → ((n ≡ old.starved) × ((told : ℕ → List Row) → AreTold old.world old.pending told → board.connections ≡ map (pushed_connection old.world told (order old.world.groups)) old.connections)) ⊎ ((n ≡ min (old.starved + 1) (2 ^ 64 - 1)) × (old.starved ≤ n)) → Does old (with_board old board n) push_step
-push-by old board n is counted = push-done old (with_board old board n) (record {
-  board = is;
-  stays = ap (λ (world : World). record old { world = world; pending = board.pending; connections = board.connections; starved = n }) is.world;
-  kept = is.kept;
-  rows = is.rows;
-  rises = rises counted;
-  all = all counted;
-}) where
-  Pushes : Type 0
-  Pushes = (told : ℕ → List Row) → AreTold old.world old.pending told → board.connections ≡ map (pushed_connection old.world told (order old.world.groups)) old.connections
-
-  rises : ((n ≡ old.starved) × Pushes) ⊎ ((n ≡ min (old.starved + 1) (2 ^ 64 - 1)) × (old.starved ≤ n)) → old.starved ≤ n
-  rises (inl c) = (let same = c.0 in omega (arith, same))
-  rises (inr c) = c.1
-
-  all : ((n ≡ old.starved) × Pushes) ⊎ ((n ≡ min (old.starved + 1) (2 ^ 64 - 1)) × (old.starved ≤ n)) → old.starved < 2 ^ 64 - 1 → n ≡ old.starved → Pushes
-  all (inl c) below same = c.1
-  all (inr c) below same = (let count = c.0 in absurd (omega (arith, count, same, below)))
-
+-- the board made its pushes
 pushed-core : (old : CoreView) (between : BoardView) (n : ℕ) → IsPushed (board_of old) between → Counted old between.connections n → IsPushedCore old (with_board old between n)
 pushed-core old between n is counted = record {
   board = is;
   stays = ap (λ (world : World). record old { world = world; pending = between.pending; connections = between.connections; starved = n }) is.world;
   kept = is.kept;
   rows = is.rows;
-  rises = rises counted;
-  all = all counted;
-} where
-  rises : Counted old between.connections n → old.starved ≤ n
-  rises (inl c) = (let same = c.0 in omega (arith, same))
-  rises (inr c) = c.1
-
-  all : Counted old between.connections n → old.starved < 2 ^ 64 - 1 → n ≡ old.starved → (told : ℕ → List Row) → AreTold old.world old.pending told
-      → between.connections ≡ map (pushed_connection old.world told (order old.world.groups)) old.connections
-  all (inl c) below same told are =
+  rises = counted.1;
+  counts = counts-dropped old (with_board old between n) dropped (let sum = are.sum in let less = are.less in omega (arith, sum, less)) counted.0 refl;
+  all = λ below same told told_are.
       let ns = order old.world.groups in
       let push = pushed_connection old.world told ns in
-      let each = is.each told are in
-      let most = not_more ns push (all_is old.world told ns) old.connections between.connections each in
-      let least = c.1 in
-      none_left ns push (all_is old.world told ns) old.connections between.connections each (omega (arith, most, least))
-  all (inr c) below same told are = (let count = c.0 in absurd (omega (arith, count, same, below)))
+      let none : dropped ≡ 0 = raised-none old.starved dropped below (sym counted.0 ∙ same) in
+      let less = are.less in
+      none_left ns push (all_is old.world told ns) old.connections between.connections (is.each told told_are) (omega (arith, none, less));
+} where
+  dropped : ℕ
+  dropped = open_number old.connections - open_number between.connections
+
+  are : AreDropped old.connections between.connections
+  are = kept_dropped old.connections between.connections is.kept
+
+pub push-by : (old : CoreView) (board : BoardView) (n : ℕ) → IsPushed (board_of old) board → Counted old board.connections n → Runs old (with_board old board n) push_step
+push-by old board n is counted = push-done old (with_board old board n) (pushed-core old board n is counted)
 
 -- what is pushed before a request
-before-done : (old : CoreView) (between : BoardView) (n : ℕ) (client : Client) (request : Request) → PushedIf (client.logged_in && is_nicklist request.command) (board_of old) between → Counted old between.connections n → Does old (with_board old between n) (λ state. push_before client request state)
+before-done : (old : CoreView) (between : BoardView) (n : ℕ) (client : Client) (request : Request) → PushedIf (client.logged_in && is_nicklist request.command) (board_of old) between → Counted old between.connections n → Runs old (with_board old between n) (λ state. push_before client request state)
 before-done old between n client request pushed counted = by (client.logged_in && is_nicklist request.command) pushed where
-  stays : Counted old between.connections n → Does old (with_board old (board_of old) n) no_step
-  stays (inl c) = let P : ℕ → Type 0 = λ m. Does old (record old { starved = m }) no_step in subst P (sym c.0) (Does-stays old)
-  stays (inr c) = starved_only old (record old { starved = n }) no_step (ap (λ (m : ℕ). record old { starved = m }) c.0) c.1
+  stays : Counted old old.connections n → Runs old (with_board old (board_of old) n) no_step
+  stays c = let P : ℕ → Type 0 = λ m. Runs old (record old { starved = m }) no_step in subst P (sym (counted-none old n c)) (Runs-stays old)
 
-  by : (b : Bool) → PushedIf b (board_of old) between → Does old (with_board old between n) (λ state. cond b (push_step state) (no_step state))
+  by : (b : Bool) → PushedIf b (board_of old) between → Runs old (with_board old between n) (λ state. cond b (push_step state) (no_step state))
   by true is = push-done old (with_board old between n) (pushed-core old between n is counted)
-  by false same = let P : BoardView → Type 0 = λ b. Does old (with_board old b n) no_step in subst P (sym same) (stays counted)
+  by false same =
+      let P : BoardView → Type 0 = λ b. Runs old (with_board old b n) no_step in
+      let Q : BoardView → Type 0 = λ b. Counted old b.connections n in
+      subst P (sym same) (stays (subst Q same counted))
+
+-- clients are kept where something may be pushed
+pushed-kept : (b : Bool) (old between : BoardView) → PushedIf b old between → ConnectionsKept old.connections between.connections
+pushed-kept true old between is = is.kept
+pushed-kept false old between same = let P : BoardView → Type 0 = λ b. ConnectionsKept old.connections b.connections in subst P (sym same) (ConnectionsKept-refl old.connections)
 
 pushed-world : (b : Bool) (old between : BoardView) → PushedIf b old between → between.world ≡ old.world
 pushed-world true old between is = is.world
@@ -174,6 +171,11 @@ pub answers : (old : CoreView) (board : BoardView) (n k : ℕ) (request : Reques
 answers old board n k request result is counted = record {
   between = with_board old between n;
   pushed = by (at_key connection_link k old.connections) is.pushed;
+  uncut = refl;
+  dropped = open_number old.connections - open_number between.connections;
+  left = (let sum = are.sum in let less = are.less in omega (arith, sum, less));
+  counted = now.0;
+  asker = λ opened shut. (let less = kept_less k old.connections between.connections kept opened shut in omega (arith, less));
   same = λ before now was here sits. client-same k old.connections between.connections before now (pushed-clients-same pushes (board_of old) between is.pushed) was here;
   world = pushed-world pushes (board_of old) between is.pushed;
   options = refl;
@@ -189,13 +191,18 @@ answers old board n k request result is counted = record {
   opened : open_number board.connections ≡ open_number between.connections
   opened = answered-open k old.options request result between board (at_key connection_link k between.connections) refl is.answered
 
-  now : Counted old board.connections n → Counted old between.connections n
-  now (inl c) = (let least = c.1 in inl (c.0, omega (arith, least, opened)))
-  now (inr c) = inr c
+  now : Counted old between.connections n
+  now = (let P : ℕ → Type 0 = λ m. (n ≡ raised old.starved (open_number old.connections - m)) × (old.starved ≤ n) in subst P opened counted)
 
-  by : (o : Option Connection) → PushedIf (pushes_before o request.command) (board_of old) between → IfSome o (λ connection. Does old (with_board old between n) (λ state. push_before connection.session.client request state))
+  kept : ConnectionsKept old.connections between.connections
+  kept = pushed-kept pushes (board_of old) between is.pushed
+
+  are : AreDropped old.connections between.connections
+  are = kept_dropped old.connections between.connections kept
+
+  by : (o : Option Connection) → PushedIf (pushes_before o request.command) (board_of old) between → IfSome o (λ connection. Runs old (with_board old between n) (λ state. push_before connection.session.client request state))
   by None pushed = tt
-  by (Some s) pushed = before-done old between n s.session.client request pushed (now counted)
+  by (Some s) pushed = before-done old between n s.session.client request pushed now
 
 -- ---- who asked
 
@@ -245,45 +252,52 @@ asked-text k request result old new utf8 is = text-answered k old.options reques
 -- ---- lines
 
 -- the line of a client that is not open, or not there
-pub line-shut : (old : CoreView) (k : ℕ) (line : List ℕ) → is_open_at (at_key connection_link k old.connections) ≡ false → Does old old (λ state. line_step state line (at_key client_link k state.clients))
+pub line-shut : (old : CoreView) (k : ℕ) (line : List ℕ) → is_open_at (at_key connection_link k old.connections) ≡ false → RunsHere k old old (λ state. line_step state line (at_key client_link k state.clients))
 line-shut old k line shut = by (at_key connection_link k old.connections) refl shut where
-  by : (o : Option Connection) → at_key connection_link k old.connections ≡ o → is_open_at o ≡ false → Does old old (λ state. line_step state line (at_key client_link k state.clients))
+  by : (o : Option Connection) → at_key connection_link k old.connections ≡ o → is_open_at o ≡ false → RunsHere k old old (λ state. line_step state line (at_key client_link k state.clients))
   by None at shut = line-missing old k line at
   by (Some s) at shut = line-leaving old k line s at shut
 
 -- the line of an open client, whose request was served
 pub line-served : (old new : CoreView) (k : ℕ) (line : List ℕ) (session : Known) (request : Option Request) → session_at (at_key connection_link k old.connections) ≡ Some session → is_open_at (at_key connection_link k old.connections) ≡ true → request ≡ request_of session.client.escaped line
-    → IfSome (at_key connection_link k old.connections) (λ connection. Does old new (λ state. request_step state connection.session.client request)) → Does old new (λ state. line_step state line (at_key client_link k state.clients))
+    → IfSome (at_key connection_link k old.connections) (λ connection. RunsFor (Some k) old new (λ state. request_step state connection.session.client request)) → RunsHere k old new (λ state. line_step state line (at_key client_link k state.clients))
 line-served old new k line session request there sits e done = by (at_key connection_link k old.connections) refl there sits done where
-  by : (o : Option Connection) → at_key connection_link k old.connections ≡ o → session_at o ≡ Some session → is_open_at o ≡ true → IfSome o (λ connection. Does old new (λ state. request_step state connection.session.client request)) → Does old new (λ state. line_step state line (at_key client_link k state.clients))
+  by : (o : Option Connection) → at_key connection_link k old.connections ≡ o → session_at o ≡ Some session → is_open_at o ≡ true → IfSome o (λ connection. RunsFor (Some k) old new (λ state. request_step state connection.session.client request)) → RunsHere k old new (λ state. line_step state line (at_key client_link k state.clients))
   by None at there sits done = absurd (none-open sits)
   by (Some s) at there sits done =
       let same : s.session ≡ session = ap (λ o. unwrap_or o session) there in
       line-asked old new k line s request at sits (e ∙ ap (λ (known : Known). request_of known.client.escaped line) (sym same)) done
 
 -- a line that is no request
-pub line-passed : (old : CoreView) (o : Option Connection) → IfSome o (λ connection. Does old old (λ state. request_step state connection.session.client None))
-line-passed old None = tt
-line-passed old (Some s) = Does-stays old
+pub line-passed : (k : ℕ) (old : CoreView) (o : Option Connection) → IfSome o (λ connection. RunsFor (Some k) old old (λ state. request_step state connection.session.client None))
+line-passed k old None = tt
+line-passed k old (Some s) = Runs-stays old
 
 -- ---- by what the calls of the board say
 
-pub answers-starved : (old : CoreView) (board : BoardView) (new : CoreView) (k : ℕ) (request : Request) (result : Outcome) → AnswersAfterPushes k old.options request result (board_of old) board → new ≡ record (with_board old board old.starved) { starved = min (old.starved + 1) (2 ^ 64 - 1) } → old.starved ≤ new.starved
-    → AnswersRequestOf k request result old new
-answers-starved old board new k request result is counts rises =
-    let count : new.starved ≡ min (old.starved + 1) (2 ^ 64 - 1) = ap (λ (c : CoreView). c.starved) counts in
+more : (old : CoreView) (board : BoardView) (new : CoreView) (before : ℕ) → new ≡ record (with_board old board old.starved) { starved = count_since old board.connections before } → old.starved ≤ new.starved → old.starved ≤ count_since old board.connections before
+more old board new before e rises = (let same = ap (λ (c : CoreView). c.starved) e in omega (arith, same, rises))
+
+-- after a request
+pub answers-counted : (old : CoreView) (board : BoardView) (new : CoreView) (before k : ℕ) (request : Request) (result : Outcome) → AnswersAfterPushes k old.options request result (board_of old) board → new ≡ record (with_board old board old.starved) { starved = count_since old board.connections before }
+    → before ≡ open_number old.connections → old.starved ≤ new.starved → AnswersRequestOf k request result old new
+answers-counted old board new before k request result is e same rises =
     let P : CoreView → Type 0 = λ new. AnswersRequestOf k request result old new in
-    subst P (sym counts) (answers old board (min (old.starved + 1) (2 ^ 64 - 1)) k request result is (inr (refl, omega (arith, count, rises))))
+    subst P (sym e) (answers old board (count_since old board.connections before) k request result is (counted-as old board.connections before same (more old board new before e rises)))
 
-pub answers-all : (old : CoreView) (board : BoardView) (k : ℕ) (request : Request) (result : Outcome) → AnswersAfterPushes k old.options request result (board_of old) board → open_number old.connections ≤ open_number board.connections → AnswersRequestOf k request result old (with_board old board old.starved)
-answers-all old board k request result is least = answers old board old.starved k request result is (inl (refl, least))
+-- as many are open after a request as before at most
+pub answers-open : (old board : BoardView) (k : ℕ) (options : OptionsValue) (request : Request) (result : Outcome) → AnswersAfterPushes k options request result old board → open_number board.connections ≤ open_number old.connections
+answers-open old board k options request result is =
+    let opened = answered-open k options request result is.between board (at_key connection_link k is.between.connections) refl is.answered in
+    let less = (kept_dropped old.connections is.between.connections (pushed-kept (pushes_before (at_key connection_link k old.connections) request.command) old is.between is.pushed)).less in
+    omega (arith, opened, less)
 
-pub push-starved : (old : CoreView) (board : BoardView) (new : CoreView) → IsPushed (board_of old) board → new ≡ record (with_board old board old.starved) { starved = min (old.starved + 1) (2 ^ 64 - 1) } → old.starved ≤ new.starved
-    → Does old new push_step
-push-starved old board new is counts rises =
-    let count : new.starved ≡ min (old.starved + 1) (2 ^ 64 - 1) = ap (λ (c : CoreView). c.starved) counts in
-    let P : CoreView → Type 0 = λ new. Does old new push_step in
-    subst P (sym counts) (push-by old board (min (old.starved + 1) (2 ^ 64 - 1)) is (inr (refl, omega (arith, count, rises))))
+-- after pushes
+pub push-counted : (old : CoreView) (board : BoardView) (new : CoreView) (before : ℕ) → IsPushed (board_of old) board → new ≡ record (with_board old board old.starved) { starved = count_since old board.connections before } → before ≡ open_number old.connections → old.starved ≤ new.starved
+    → Runs old new push_step
+push-counted old board new before is e same rises =
+    let P : CoreView → Type 0 = λ new. Runs old new push_step in
+    subst P (sym e) (push-by old board (count_since old board.connections before) is (counted-as old board.connections before same (more old board new before e rises)))
 
 pub came-by : (told : Beside) (old : CoreView) (board : BoardView) (servers : ServersView) (link : LinkId) (nonce : List ℕ) → length (filter (λ connection. is_open connection) old.connections) < client_limit old.options → servers ≡ used_up link.0 old.servers
     → board ≡ record (board_of old) { connections = old.connections ++ new_connection old.options link nonce ∷ [] } → AdmitsUnlessStarved told link.0 old (with_board (record old { servers = servers }) board old.starved) None (arrival_step (state_of old told) link.0 nonce)
@@ -299,13 +313,16 @@ surplus-by told old servers link nonce full used =
     let Q : ServersView → Type 0 = λ servers. AdmitsUnlessStarved told link.0 old (record old { servers = servers }) (Some Surplus) (arrival_step (state_of old told) link.0 nonce) in
     subst Q (sym used) (came-surplus told old link nonce full)
 
-pub changed-all : (old : CoreView) (board : BoardView) (change : Change) (n : Notice) → Accepted old.world change board.world n → AreTouched old.world change old.pending board.pending → AreBuffers board.world.groups → NoStrayTouches old.world old.pending
-    → board.connections ≡ map (told_connection board.world n) old.connections → MakesChange old change (with_board old board old.starved)
-changed-all old board change n accepted touched are stray told = changes-all old (with_board old board old.starved) change n refl accepted touched are stray told
+pub changed-some : (old : CoreView) (board : BoardView) (new : CoreView) (before : ℕ) (change : Change) (notice : Notice) → MadeOn old board.world board.pending change notice → ConnectionsServed notice.kind notice.buffer.0 (told_connection board.world notice) old.connections board.connections
+    → new ≡ record (with_board old board old.starved) { starved = count_since old board.connections before } → before ≡ open_number old.connections → old.starved ≤ new.starved → MakesChange old change new
+changed-some old board new before change notice made served e same rises =
+    let c = counted-as old board.connections before same (more old board new before e rises) in
+    changes-some old new board.world board.pending board.connections (count_since old board.connections before) change notice made served e c.0 c.1
 
-pub changed-some : (old : CoreView) (board : BoardView) (new : CoreView) (change : Change) (n : Notice) → Accepted old.world change board.world n → AreTouched old.world change old.pending board.pending → ConnectionsServed n.kind n.buffer.0 (told_connection board.world n) old.connections board.connections → new ≡ record (with_board old board old.starved) { starved = min (old.starved + 1) (2 ^ 64 - 1) } → old.starved ≤ new.starved
-    → MakesChange old change new
-changed-some old board new change n accepted touched served counts rises = changes-some old (with_board old board old.starved) new change n (told_connection board.world n) accepted touched refl served counts rises
+-- nobody is dropped as a client comes
+pub came-counts : (old : CoreView) (board : BoardView) (servers : ServersView) (link : LinkId) (nonce : List ℕ) → board ≡ record (board_of old) { connections = old.connections ++ new_connection old.options link nonce ∷ [] } → Counts 0 old (with_board (record old { servers = servers }) board old.starved)
+came-counts old board servers link nonce e =
+    counts-none old (with_board (record old { servers = servers }) board old.starved) (ap (λ (b : BoardView). starving_number b.connections) e ∙ starving_more old.connections (new_connection old.options link nonce) refl) refl refl
 
 -- what holds where a call did not fail
 pub on_ok : {A E : Type 0} (r : Result A E) (P : Type 0) → is_err r ≡ false → OnOk r P → P
@@ -322,17 +339,30 @@ idle-by old board world connections =
     ap (λ (w : World). record old { world = w; pending = board.pending; connections = board.connections }) world ∙ ap (λ (all : List Connection). record old { pending = board.pending; connections = all }) connections
 
 -- no change is made, for want of memory
-pub changed-none : (old : CoreView) (board : BoardView) (new : CoreView) (change : Change) → IsUnchanged (board_of old) board → new ≡ record (with_board old board old.starved) { starved = min (old.starved + 1) (2 ^ 64 - 1) } → old.starved ≤ new.starved → MakesChange old change new
+pub changed-none : (old : CoreView) (board : BoardView) (new : CoreView) (change : Change) → IsUnchanged (board_of old) board → new ≡ record (with_board old board old.starved) { starved = min (old.starved + 1) (2 ^ 64 - 1); cuts = min (old.cuts + 1) (2 ^ 64 - 1) } → old.starved ≤ new.starved → MakesChange old change new
 changed-none old board new change stays counts rises =
     let mid : CoreView = record old { pending = board.pending } in
     let same : with_board old board old.starved ≡ mid = idle-by old board stays.world stays.connections in
-    let starves = starves-only mid new (counts ∙ ap (λ (core : CoreView). record core { starved = min (old.starved + 1) (2 ^ 64 - 1) }) same) rises in
+    let starves = starves-only mid new (counts ∙ ap (λ (core : CoreView). record core { starved = min (old.starved + 1) (2 ^ 64 - 1); cuts = min (old.cuts + 1) (2 ^ 64 - 1) }) same) rises in
     inr (record {
       keeps = KeepsClients-trans old mid new (keeps-touches old board.pending stays.touches) starves.keeps;
+      board = by-both (board_of old) (board_of mid) (board_of new) (by-one (board_of old) (board_of mid) (Keeps (record { same = stays.touches; put = refl })) tt) starves.board;
+      counts = record { dropped = starves.counts.dropped; short = starves.counts.short; own = starves.counts.own; lost = starves.counts.lost; leaving = starves.counts.leaving; counted = starves.counts.counted; cuts = starves.counts.cuts };
       causes = starves.causes;
       counted = starves.counted;
+      cut = starves.cut;
+      holds = λ told were. (let h = starves.holds told (same-told old board.pending (beside_in told) stays.touches were) in record { same = h.same; told = h.told });
     })
 
--- the core after pushes of nothing
-pub idle-pushed : (old : CoreView) (board : BoardView) → ((buffer : Handle) → touches_of buffer old.pending ≡ []) → board.world ≡ old.world → board.connections ≡ old.connections → with_board old board old.starved ≡ record old { pending = board.pending }
-idle-pushed old board none world connections = idle-by old board world connections
+-- the core after pushes of nothing, of which nobody was dropped
+pub idle-counted : (old : CoreView) (board : BoardView) (new : CoreView) (before : ℕ) → ((buffer : Handle) → touches_of buffer old.pending ≡ []) → board.world ≡ old.world → board.connections ≡ old.connections → new ≡ record (with_board old board old.starved) { starved = count_since old board.connections before } → before ≡ open_number old.connections
+    → old.starved ≤ new.starved → new ≡ record old { pending = new.pending }
+idle-counted old board new before none world connections e same rises =
+    let c = counted-as old board.connections before same (more old board new before e rises) in
+    let stayed : count_since old board.connections before ≡ old.starved =
+    c.0 ∙ (let P : List Connection → Type 0 = λ all. raised old.starved (open_number old.connections - open_number all) ≡ old.starved in subst P (sym connections) (stays old)) in
+    let is : new ≡ record old { pending = board.pending } = e ∙ ap (λ (n : ℕ). record (with_board old board old.starved) { starved = n }) stayed ∙ idle-by old board world connections in
+    is ∙ ap (λ (pending : List OfBuffer). record old { pending = pending }) (sym (ap (λ (c : CoreView). c.pending) is))
+  where
+    stays : (old : CoreView) → raised old.starved (open_number old.connections - open_number old.connections) ≡ old.starved
+    stays old = (let none : open_number old.connections - open_number old.connections ≡ 0 = omega arith in ap (raised old.starved) none)

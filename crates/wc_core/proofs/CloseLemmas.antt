@@ -21,7 +21,7 @@ use Rattle.wc_options.specs.declared.refusal.SetRefused.{SetRefused}
 use Rattle.wc_options.specs.declared.refusal.SetRefused.TheVariants.{UnknownOption}
 use Rattle.wc_core.specs.Typed.{TypedCommand, typed_line, lines_of_text, evaluation_of}
 use Rattle.wc_core.specs.State.{State, has_end}
-use Rattle.wc_core.specs.Step.{set_step_if, unset_step_if, client_link, pushed_to, push_at, pushes_of, push_step, no_step, then_does, sends, ask_step, effect_step, typed_step, other_of, input_by, input_step, lines_step, start_step, outcome_step, answer_step, loss_step, core_buffer, commands_step, plain_step, Evaluation, evaluated_by, input_with, eval_step, evaluation_at, input_at, run_value}
+use Rattle.wc_core.specs.Step.{reach_step, set_step_if, unset_step_if, client_link, pushed_to, push_at, pushes_of, push_step, no_step, then_does, sends, ask_step, effect_step, typed_step, other_of, input_by, input_step, lines_step, start_step, outcome_step, answer_step, loss_step, core_buffer, commands_step, plain_step, Evaluation, evaluated_by, input_with, eval_step, evaluation_at, input_at}
 use Rattle.wc_core.specs.CoreView.{CoreView}
 use Rattle.wc_core.specs.Served.{state_of, or_else, close_of, LeavesBy}
 use Rattle.wc_board.specs.Served.{StaysOrStarves}
@@ -142,7 +142,7 @@ follows-same j k (outcome.Input buffer text) s t = runs-closes j s buffer (lines
 follows-same j k (outcome.Leave why) s t = refl
 follows-same j k outcome.NoMemory s t = refl
 
-pub reply-later : (b : CoreView) (k : ℕ) (state : State) (messages : List WireMessage) (o : Outcome) → ClosesLater b (record { state = state; acts = sends k messages }) (λ next. outcome_step next k o)
+pub reply-later : (b : CoreView) (k : ℕ) (state : State) (messages : List WireMessage) (o : Outcome) → ClosesLater b (reach_step state (sends k messages)) (λ next. outcome_step next k o)
 reply-later b k state messages o = record { first_none = λ j. close-sends j k messages; same = λ j. follows-same j k o (state_of b (beside state)) state }
 
 -- whom an answer closes does not hang on the state

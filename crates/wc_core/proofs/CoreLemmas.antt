@@ -1,5 +1,5 @@
 -- What each of the core's calls does.
-use Rattle.std.proofs.Common.{◌≡◌, cond, ◌&&◌, ℕ, ◌+◌, ◌-◌, ◌^◌, ◌<◌, ◌≤◌, true, false, List, [], ◌∷◌, ◌++◌, length, inl, inr, Option, Some, None, Bool, max, not, nat_eq, ◌≢◌, refl, ap, sym, subst, ◌∙◌, arith, nat_lt, min, filter, IfSome}
+use Rattle.std.proofs.Common.{◌≡◌, cond, ◌&&◌, ◌||◌, ◌⊎◌, ℕ, ◌+◌, ◌-◌, ◌^◌, ◌<◌, ◌≤◌, true, false, List, [], ◌∷◌, ◌++◌, length, inl, inr, Option, Some, None, Bool, max, not, nat_eq, ◌≢◌, refl, ap, sym, subst, ◌∙◌, arith, nat_lt, min, filter, IfSome}
 use Rattle.std.specs.Prelude.{map}
 use Rattle.std.proofs.lemmas.Bool.{false≢true}
 use Rattle.std.proofs.lemmas.Bool.Decides.{nat_tests}
@@ -7,7 +7,7 @@ use Rattle.wc_text.specs.declared.names.Cause.{Cause}
 use Rattle.wc_text.specs.declared.names.Cause.TheVariants.{Surplus, NoMemory}
 use Rattle.wc_text.specs.declared.names.LinkId.{LinkId}
 use Rattle.wc_outside.specs.Keyed.{at_key, put_at}
-use Rattle.wc_outside.proofs.KeyedLemmas.{at_key-key}
+use Rattle.wc_outside.proofs.KeyedLemmas.{at_key-key, put_at-same}
 use Rattle.wc_relaycmd.specs.declared.request.Request.{Request}
 use Rattle.wc_relaycmd.specs.Answers.{request_of}
 use Rattle.wc_relaycmd.specs.Utf8.{RequestIsUtf8}
@@ -19,12 +19,10 @@ use Rattle.wc_session.specs.Reply.{Answer, reply_of}
 use Rattle.wc_session.specs.Served.{OnServed, OnNoMemory, AnswersRequest}
 use Rattle.wc_board.specs.declared.connection.Connection.{Connection}
 use Rattle.wc_core.specs.CoreView.{CoreView}
-use Rattle.wc_core.specs.BoardSteps.{board_of, Tells, Answers, Loses, BoardSteps}
-use Rattle.wc_core.proofs.BoardStepLemmas.{steps-one}
+use Rattle.wc_core.specs.BoardSteps.{board_of, BoardStep, AnswersClient, Answers, Loses, Tells, IsBy, StepsBy}
+use Rattle.wc_core.proofs.BoardStepLemmas.{steps-one, by-same, by-one, by-both}
 use Rattle.wc_text.specs.declared.names.Handle.{Handle}
-use Rattle.wc_buffers.specs.Calls.{EntryGroups}
 use Rattle.wc_model.specs.declared.change.Change.{Change}
-use Rattle.wc_model.specs.declared.change.What.TheVariants as what
 use Rattle.wc_model.specs.declared.notice.Notice.{Notice}
 use Rattle.wc_model.specs.declared.refused.ChangeRefused.{ChangeRefused}
 use Rattle.wc_model.specs.World.{World}
@@ -34,13 +32,13 @@ use Rattle.wc_model.specs.Touches.{told_after}
 use Rattle.wc_nickdiff.specs.Held.{OfBuffer}
 use Rattle.wc_options.specs.Options.{OptionsValue}
 use Rattle.wc_core.specs.Typed.{TypedCommand}
-use Rattle.wc_core.specs.Resolved.{Effect, Stays, Ends as ResolvedEnds, Tells, Asks, SetsOption, UnsetsOption, SavesOptions, switched, buffer_meant, of_meant, of_named, change_of, line_spec, effect_of, refusal_text, told_refusal}
+use Rattle.wc_core.specs.Resolved.{Effect, effect_of, refusal_text, told_refusal}
 use Rattle.wc_core.specs.Inputs.{MakesChange, RefusesChange, push_before, AnswersRequestOf}
 use Rattle.wc_core.specs.Limits.{client_limit}
 use Rattle.wc_core.specs.State.{State, Act, Stepped, Closes}
-use Rattle.wc_core.specs.Step.{client_link, no_step, then_does, push_step, reply_step, sends, tell_all_step, change_step, change_step_if, refusal_step, ask_step_if, ask_step, effect_step, typed_step, leave_step, loss_step, arrival_step, outcome_step, answer_step, request_step, line_step}
+use Rattle.wc_core.specs.Step.{client_link, no_step, then_does, push_step, reply_step, sends, tell_all_step, change_step, change_step_if, refusal_step, ask_step_if, ask_step, effect_step, typed_step, leave_step, arrival_step, outcome_step, answer_step, request_step, line_step}
 use Rattle.wc_board.specs.Connections.{connection_link, is_open, is_open_at, leaving_on, left_if, left_at}
-use Rattle.wc_core.specs.Served.{clients_of, state_of, WereTold, close_of, Distinct, LeavesBy, FollowsUnlessStarved, Does, AdmitsUnlessStarved, RanOutOfMemory, OutcomeUtf8, plain_beside}
+use Rattle.wc_core.specs.Served.{clients_of, WereTold, close_of, LeavesBy, AdmitsUnlessStarved, OutcomeUtf8, plain_beside, Follows, KeepsClients, or_else, state_of}
 use Rattle.wc_board.specs.Served.{StaysOrStarves, told_connection, ConnectionsServed, ConnectionsKept}
 use Rattle.wc_board.specs.Answered.{is_nicklist, AnsweredIf, AnsweredAt}
 use Rattle.wc_board.specs.BoardView.{BoardView, NoStrayTouches}
@@ -49,132 +47,178 @@ use Rattle.wc_board.specs.Told.{Told}
 use Rattle.wc_core.specs.State.{Beside, beside}
 use Rattle.wc_board.proofs.TellLaw.{change_keeps_told}
 use Rattle.wc_buffers.specs.Kept.{AreBuffers}
-use Rattle.wc_core.proofs.CloseLemmas.{reply-later, lost-starves, pushes-closes, answer-closes-same}
+use Rattle.wc_core.proofs.CloseLemmas.{reply-later, pushes-closes, answer-closes-same}
 use Rattle.wc_servers.specs.Seats.{used_up}
 use Rattle.wc_core.proofs.ComeLemmas.{ServersKeep-refl}
-use Rattle.wc_core.proofs.DidLemmas.{servers-same, ClosesLater, leaves-none, Follows-stays, KeepsClients-refl, KeepsClients-trans, KeepsClients-connections, saves-as, KeepsSaved-trans, FollowsUnlessStarved-exact, Does-stays, Does-starved, FollowsUnlessStarved-then}
-use Rattle.wc_core.proofs.ConnectionLemmas.{open-length, clients-push, links-push, unsent-push, leaving-push, kept-push, client-open, client-missing, client-leaving}
+use Rattle.wc_core.proofs.DidLemmas.{servers-same, ClosesLater, leaves-none, Follows-stays, KeepsClients-refl, KeepsClients-trans, KeepsClients-connections, saves-as, no-outs, or-false}
+use Rattle.wc_core.proofs.ConnectionLemmas.{open-length, clients-push, links-push, unsent-push, leaving-push, kept-push, client-open, client-missing, client-leaving, end-sends, end-told, outs-sends, outs-told}
 use Rattle.wc_board.proofs.ConnectionLemmas.{ConnectionsKept-causes}
+use Rattle.wc_board.proofs.PushEach.{open_number}
+use Rattle.wc_servers.proofs.OutLemmas.{ServersFollow-refl}
 use Rattle.wc_board.proofs.EventLemmas.{served_map, served_kept}
-use Rattle.wc_core.proofs.ServeLemmas.{open_none, told_to_all, told-left, Follows-told, KeepsClients-told, KeepsClients-put, reply-left, Follows-reply, leave-left, Follows-leave, leaving-put}
+use Rattle.wc_core.proofs.ServeLemmas.{open_none, told_to_all, told-left, Follows-told, KeepsClients-told, KeepsClients-put, reply-left, Follows-reply, leave-left, Follows-leave}
 use Rattle.wc_core.proofs.ReplyLemmas.{reply_fits}
-use Rattle.wc_core.proofs.PushLemmas.{Does-over}
+use Rattle.wc_core.proofs.PushLemmas.{Runs-over}
+use Rattle.wc_core.specs.Contained.{Rest, state_with, RunsBy, RunsAt, RunsFor, Runs, RanOutOfMemory, RanOutFor, Counts, Holds, IsDone, LosesAsker, LosesAskerIf, RunsHere, beside_in, want_number, rest_in, starving_number, raised, starved_by}
+use Rattle.wc_eval.specs.Verdicts.{Agrees, VerdictsView}
+use Rattle.wc_core.specs.Changing.{put_step, reach_step}
+use Rattle.wc_core.proofs.RunLemmas.{IsOn-first, Runs-starved, Runs-stays, RunsAt-exact, RunsAt-then, contained-none, RunsAt-starved, RunsBy-any}
+use Rattle.wc_core.proofs.CountLemmas.{AreDropped, Counts-refl, counts-dropped, counts-none, counts-short, kept_dropped, raised-none, served_none, starved_by-raised, starving_put, told_starving, counts-after-drops}
+use Rattle.wc_core.proofs.ChainLemmas.{stays-by}
 
 -- ---- want of memory
 
 -- want of memory alone
-pub starves-only : (old new : CoreView) → new ≡ record old { starved = min (old.starved + 1) (2 ^ 64 - 1) } → old.starved ≤ new.starved → RanOutOfMemory old new
+pub starves-only : (old new : CoreView) → new ≡ record old { starved = min (old.starved + 1) (2 ^ 64 - 1); cuts = min (old.cuts + 1) (2 ^ 64 - 1) } → old.starved ≤ new.starved → RanOutOfMemory old new
 starves-only old new e rises =
+    let after : CoreView = record old { starved = min (old.starved + 1) (2 ^ 64 - 1); cuts = min (old.cuts + 1) (2 ^ 64 - 1) } in
     let count : new.starved ≡ min (old.starved + 1) (2 ^ 64 - 1) = ap (λ (c : CoreView). c.starved) e in
+    let cuts : new.cuts ≡ min (old.cuts + 1) (2 ^ 64 - 1) = ap (λ (c : CoreView). c.cuts) e in
     record {
-      keeps = KeepsClients-connections old new (ap board_of e) rises (saves-as old new (record old { starved = min (old.starved + 1) (2 ^ 64 - 1) }) e refl refl) (servers-same old new (ap (λ (c : CoreView). c.servers) e)) (ap (λ (c : CoreView). c.verdicts) e);
+      keeps = KeepsClients-connections old new (ap board_of e) rises (saves-as old new after e refl refl) (servers-same old new (ap (λ (c : CoreView). c.servers) e)) (ap (λ (c : CoreView). c.verdicts) e);
+      board = by-same (board_of old) (board_of new) (ap board_of e);
+      counts = counts-short old new (ap (λ (c : CoreView). starving_number c.connections) e) count cuts;
       causes = λ distinct j. inl (ap (λ (c : CoreView). leaving_on j c.connections) e);
       counted = λ below. omega arith;
+      cut = λ below. omega (arith, cuts, below);
+      holds = λ told were. (let P : CoreView → Type 0 = λ c. Holds c (state_with old told) in subst P (sym e) (record { same = refl; told = were }));
     }
 
-pub starved_only : (old new : CoreView) (step : State → Stepped) → new ≡ record old { starved = min (old.starved + 1) (2 ^ 64 - 1) } → old.starved ≤ new.starved → Does old new step
-starved_only old new step e rises = Does-starved old new step (starves-only old new e rises)
+pub starved_only : (old new : CoreView) (step : State → Stepped) → new ≡ record old { starved = min (old.starved + 1) (2 ^ 64 - 1); cuts = min (old.cuts + 1) (2 ^ 64 - 1) } → old.starved ≤ new.starved → Runs old new step
+starved_only old new step e rises = Runs-starved old new step (starves-only old new e rises)
 
--- what was done stays done where want of memory is counted after it
-pub done-starved : (old mid new : CoreView) (step : State → Stepped) → Does old mid step → new ≡ record mid { starved = min (mid.starved + 1) (2 ^ 64 - 1) } → mid.starved ≤ new.starved → Does old new step
-done-starved old mid new step done e rises = λ told.
-    let f = done told in
-    let connections : new.connections ≡ mid.connections = ap (λ (c : CoreView). c.connections) e in
-    let count : new.starved ≡ min (mid.starved + 1) (2 ^ 64 - 1) = ap (λ (c : CoreView). c.starved) e in
-    let P : ℕ → List Connection → Type 0 = λ j connections. LeavesBy (leaving_on j old.connections) (close_of j (step (state_of old told)).acts) (leaving_on j connections) in
-    record {
-      keeps = KeepsClients-trans old mid new f.keeps (KeepsClients-connections mid new (ap board_of e) rises (saves-as mid new (record mid { starved = min (mid.starved + 1) (2 ^ 64 - 1) }) e refl refl) (servers-same mid new (ap (λ (c : CoreView). c.servers) e)) (ap (λ (c : CoreView). c.verdicts) e));
-      causes = λ distinct j. subst (P j) (sym connections) (f.causes distinct j);
-      does = λ same below distinct were agrees. (let more = f.keeps.rises in absurd (omega arith));
-    }
+-- the same of whatever would have been done
+pub starves-as : (old new : CoreView) → new ≡ record old { starved = min (old.starved + 1) (2 ^ 64 - 1); cuts = min (old.cuts + 1) (2 ^ 64 - 1) } → old.starved ≤ new.starved → (told : Rest) (stepped : Stepped) → RunsAt told old new stepped
+starves-as old new e rises told stepped = RunsAt-starved told old new stepped (starves-only old new e rises)
 
 -- ---- notices
 
-told-all : (told : Beside) (told' : Told) (old : CoreView) (world : World) (pending : List OfBuffer) (n : Notice) (new : CoreView) → new ≡ told_to_all old world pending n → BoardSteps (board_of old) (board_of (told_to_all old world pending n)) → (WereTold old told → WereTold (told_to_all old world pending n) (record told { rows = told' }))
-    → FollowsUnlessStarved told old new (tell_all_step (state_of old told) told' world n)
-told-all told told' old world pending n new e steps were =
-    let step = tell_all_step (state_of old told) told' world n in
-    let P : CoreView → Type 0 = λ c. FollowsUnlessStarved told old c step in
-    subst P (sym e)
-    (FollowsUnlessStarved-exact told old (told_to_all old world pending n) step
-    (KeepsClients-told old (told_to_all old world pending n) steps (served_kept world n old.connections (map (told_connection world n) old.connections) (served_map n.kind n.buffer.0 (told_connection world n) old.connections)) (omega arith) (inl (refl, refl)) (ServersKeep-refl old.servers) refl)
-    (λ distinct. told-left told told' old world n) (λ distinct before. Follows-told told told' old world pending n distinct (were before)))
+-- what is told is done, whoever is dropped meanwhile
+told-done : (told : Rest) (told' : Told) (old : CoreView) (world : World) (pending : List OfBuffer) (connections : List Connection) (starved : ℕ) (n : Notice) → AreTold world pending (told_of told')
+    → IsDone told old (record old { world = world; pending = pending; connections = connections; starved = starved }) (tell_all_step (state_with old told) told' world n)
+told-done told told' old world pending connections starved n were =
+    let new : CoreView = record old { world = world; pending = pending; connections = connections; starved = starved } in
+    record {
+      holds = record { same = refl; told = were };
+      is_on = inr refl;
+      oracle = refl;
+      quits = sym (ap (λ t. old.quits || t) (end-told world n told.clients) ∙ or-false old.quits);
+      servers = no-outs old new (tell_all_step (state_with old told) told' world n).acts refl (outs-told world n told.clients);
+    }
+
+told-all : (told : Rest) (told' : Told) (old : CoreView) (world : World) (pending : List OfBuffer) (n : Notice) → BoardStep (board_of old) (board_of (told_to_all old world pending n)) → StepsBy None (board_of old) (board_of (told_to_all old world pending n)) → (WereTold old (beside_in told) → AreTold world pending (told_of told'))
+    → RunsAt told old (told_to_all old world pending n) (tell_all_step (state_with old told) told' world n)
+told-all told told' old world pending n step board were =
+    let new : CoreView = told_to_all old world pending n in
+    let of : List Client → Stepped = λ clients. tell_all_step (record (state_with old told) { clients = clients }) told' world n in
+    RunsAt-exact told old new of
+    (KeepsClients-told old new (steps-one (board_of old) (board_of new) step) (served_kept world n old.connections (map (told_connection world n) old.connections) (served_map n.kind n.buffer.0 (told_connection world n) old.connections)) (omega arith) (inl (refl, refl)) (ServersKeep-refl old.servers) refl)
+    board
+    (counts-none old new (told_starving world n old.connections) refl refl)
+    (λ distinct. told-left (beside_in told) told' old world n) (λ distinct before. Follows-told (beside_in told) told' old world pending n distinct (were before))
+    (λ distinct before. told-done told told' old world pending (map (told_connection world n) old.connections) old.starved n (were before))
+
+-- the rows that were told after a change
+abbrev rows_after : CoreView → Change → Rest → Told
+rows_after old change told = told_after old.world change.buffer change.what told.rows
+
+-- what a board says of a change that it made
+pub record MadeOn (old : CoreView) (world : World) (pending : List OfBuffer) (change : Change) (n : Notice) : Type 0 where
+  pub accepted : Accepted old.world change world n
+  pub touched : AreTouched old.world change old.pending pending
+  pub are : AreBuffers world.groups
+  pub stray : NoStrayTouches old.world old.pending
+
+were_after : (old : CoreView) (world : World) (pending : List OfBuffer) (change : Change) (n : Notice) → MadeOn old world pending change n → (told : Rest) → WereTold old (beside_in told) → AreTold world pending (told_of (rows_after old change told))
+were_after old world pending change n made told before =
+    let P : World → Type 0 = λ w. AreTold w pending (told_of (rows_after old change told)) in
+    let Q : World → Type 0 = λ w. AreBuffers w.groups in
+    subst P (sym made.accepted.after) (change_keeps_told old.world change old.pending pending told.rows made.accepted.accepted (subst Q made.accepted.after made.are) made.stray made.touched before)
+
+-- what is so of the notice that was told is so of the change
+as_change : (P : Stepped → Type 0) (old : CoreView) (world : World) (change : Change) (n : Notice) (told : Rest) → Accepted old.world change world n → P (tell_all_step (state_with old told) (rows_after old change told) world n) → P (change_step (state_with old told) change)
+as_change P old world change n told accepted is =
+    let Q : World → Type 0 = λ w. P (tell_all_step (state_with old told) (rows_after old change told) w n) in
+    let R : Notice → Type 0 = λ n. P (tell_all_step (state_with old told) (rows_after old change told) (after old.world change) n) in
+    subst R accepted.notice (subst Q accepted.after is)
 
 -- the board made a change, and told it to all whom its notice is for
-pub changes-all : (old new : CoreView) (change : Change) (n : Notice) → new ≡ record old { world = new.world; pending = new.pending; connections = new.connections } → Accepted old.world change new.world n → AreTouched old.world change old.pending new.pending
-    → AreBuffers new.world.groups → NoStrayTouches old.world old.pending → new.connections ≡ map (told_connection new.world n) old.connections → MakesChange old change new
-changes-all old new change n e accepted touched are stray told = inl (accepted.accepted, λ rows. made rows)
-  where
-    following : World
-    following = after old.world change
+told-change : (old : CoreView) (world : World) (pending : List OfBuffer) (change : Change) (n : Notice) → MadeOn old world pending change n → Runs old (told_to_all old world pending n) (λ state. change_step state change)
+told-change old world pending change n made = λ told.
+    let new : CoreView = told_to_all old world pending n in
+    let step : BoardStep (board_of old) (board_of new) =
+    Tells (record { change = change; notice = n; accepted = made.accepted; touched = made.touched; each = served_map n.kind n.buffer.0 (told_connection world n) old.connections }) in
+    as_change (λ stepped. RunsAt told old new stepped) old world change n told made.accepted (told-all told (rows_after old change told) old world pending n step (by-one (board_of old) (board_of new) step tt) (were_after old world pending change n made told))
 
-    whole : new ≡ told_to_all old new.world new.pending n
-    whole = e ∙ ap (λ (connections : List Connection). record old { world = new.world; pending = new.pending; connections = connections }) told
+-- some may have found no memory for it, each of whom is counted
+some-change : (old : CoreView) (world : World) (pending : List OfBuffer) (connections : List Connection) (k : ℕ) (change : Change) (n : Notice) → MadeOn old world pending change n → ConnectionsServed n.kind n.buffer.0 (told_connection world n) old.connections connections
+    → k ≡ raised old.starved (open_number old.connections - open_number connections) → old.starved ≤ k → Runs old (record old { world = world; pending = pending; connections = connections; starved = k }) (λ state. change_step state change)
+some-change old world pending connections k change n made served count rises = λ told. record {
+  keeps = KeepsClients-told old new (steps-one (board_of old) (board_of new) (Tells (record { change = change; notice = n; accepted = made.accepted; touched = made.touched; each = served }))) kept rises (inl (refl, refl)) (ServersKeep-refl old.servers) refl;
+  board = by-one (board_of old) (board_of new) (Tells (record { change = change; notice = n; accepted = made.accepted; touched = made.touched; each = served })) tt;
+  counts = counts-dropped old new dropped (let sum = are.sum in let less = are.less in omega (arith, sum, less)) count refl;
+  causes = λ here distinct j. inr (ConnectionsKept-causes j old.connections connections kept);
+  does = λ here same below distinct were agrees.
+      let none : dropped ≡ 0 = raised-none old.starved dropped below (sym count ∙ same) in
+      let less = are.less in
+      let all : connections ≡ map (told_connection world n) old.connections = served_none world n old.connections connections served (omega (arith, none, less)) in
+      let C : List Connection → CoreView = λ connections. record old { world = world; pending = pending; connections = connections; starved = k } in
+      let P : List Connection → Type 0 = λ connections. Follows (beside_in told) old (C connections) (change_step (state_with old told) change) in
+      let g = (told-change old world pending change n made told).does here refl below distinct were agrees in
+      subst P (sym all) (record { means = record { same = g.means.same; told = g.means.told }; oracle = g.oracle; bytes = g.bytes; leaving = g.leaving; quits = g.quits; servers = g.servers; parts = g.parts });
+  contains = λ below distinct were agrees.
+      let d = as_change (λ stepped. IsDone told old new stepped) old world change n told made.accepted (told-done told (rows_after old change told) old world pending connections k n (were_after old world pending change n made told were)) in
+      record { whole = λ same. d; part = record { state = (change_step (state_with old told) change).state; is_on = d.is_on; holds = d.holds } };
+} where
+  new : CoreView
+  new = record old { world = world; pending = pending; connections = connections; starved = k }
 
-    steps : BoardSteps (board_of old) (board_of (told_to_all old new.world new.pending n))
-    steps = steps-one (board_of old) (board_of (told_to_all old new.world new.pending n)) (Tells (record { change = change; notice = n; accepted = accepted; touched = touched; each = served_map n.kind n.buffer.0 (told_connection new.world n) old.connections }))
+  dropped : ℕ
+  dropped = open_number old.connections - open_number connections
 
-    rows' : Beside → Told
-    rows' rows = told_after old.world change.buffer change.what rows.rows
+  kept : ConnectionsKept old.connections connections
+  kept = served_kept world n old.connections connections served
 
-    were : (rows : Beside) → WereTold old rows → WereTold (told_to_all old new.world new.pending n) (record rows { rows = rows' rows })
-    were rows before =
-        let P : World → Type 0 = λ w. AreTold w new.pending (told_of (rows' rows)) in
-        let Q : World → Type 0 = λ w. AreBuffers w.groups in
-        subst P (sym accepted.after) (change_keeps_told old.world change old.pending new.pending rows.rows accepted.accepted (subst Q accepted.after are) stray touched before)
+  are : AreDropped old.connections connections
+  are = kept_dropped old.connections connections kept
 
-    made : (rows : Beside) → FollowsUnlessStarved rows old new (change_step (state_of old rows) change)
-    made rows =
-        let P : World → Type 0 = λ w. FollowsUnlessStarved rows old new (tell_all_step (state_of old rows) (rows' rows) w n) in
-        let Q : Notice → Type 0 = λ n. FollowsUnlessStarved rows old new (tell_all_step (state_of old rows) (rows' rows) following n) in
-        subst Q accepted.notice (subst P accepted.after (told-all rows (rows' rows) old new.world new.pending n new whole steps (were rows)))
-
--- someone found no memory for it
-pub changes-some : (old mid new : CoreView) (change : Change) (n : Notice) (service : Connection → Connection) → Accepted old.world change mid.world n → AreTouched old.world change old.pending mid.pending → mid ≡ record old { world = mid.world; pending = mid.pending; connections = mid.connections } → ConnectionsServed n.kind n.buffer.0 (told_connection mid.world n) old.connections mid.connections
-    → new ≡ record mid { starved = min (mid.starved + 1) (2 ^ 64 - 1) } → mid.starved ≤ new.starved → MakesChange old change new
-changes-some old mid new change n service accepted touched e served counts rises =
-    let kept : ConnectionsKept old.connections mid.connections = served_kept mid.world n old.connections mid.connections served in
-    let same : mid.starved ≡ old.starved = ap (λ (c : CoreView). c.starved) e in
-    let count : new.starved ≡ min (mid.starved + 1) (2 ^ 64 - 1) = ap (λ (c : CoreView). c.starved) counts in
-    let P : List Connection → Type 0 = λ connections. ConnectionsKept old.connections connections in
-    let now : ConnectionsKept old.connections new.connections = subst P (sym (ap (λ (c : CoreView). c.connections) counts)) kept in
-    inr (record {
-      keeps = KeepsClients-told old new (subst (BoardSteps (board_of old)) (sym (ap board_of counts)) (steps-one (board_of old) (board_of mid) (Tells (record { change = change; notice = n; accepted = accepted; touched = touched; each = served })))) now (omega (arith, same, rises)) (KeepsSaved-trans old mid new (saves-as old mid (record old { world = mid.world; pending = mid.pending; connections = mid.connections }) e refl refl) (saves-as mid new (record mid { starved = min (mid.starved + 1) (2 ^ 64 - 1) }) counts refl refl)) (servers-same old new (ap (λ (c : CoreView). c.servers) counts ∙ ap (λ (c : CoreView). c.servers) e)) (ap (λ (c : CoreView). c.verdicts) counts ∙ ap (λ (c : CoreView). c.verdicts) e);
-      causes = λ distinct j. ConnectionsKept-causes j old.connections new.connections now;
-      counted = λ below. omega arith;
-    })
+pub changes-some : (old new : CoreView) (world : World) (pending : List OfBuffer) (connections : List Connection) (k : ℕ) (change : Change) (n : Notice) → MadeOn old world pending change n → ConnectionsServed n.kind n.buffer.0 (told_connection world n) old.connections connections
+    → new ≡ record old { world = world; pending = pending; connections = connections; starved = k } → k ≡ raised old.starved (open_number old.connections - open_number connections) → old.starved ≤ k → MakesChange old change new
+changes-some old new world pending connections k change n made served e count rises =
+    let P : CoreView → Type 0 = λ c. Runs old c (λ state. change_step state change) in
+    inl (made.accepted.accepted, subst P (sym e) (some-change old world pending connections k change n made served count rises))
 
 -- ---- changes and refusals
 
-pub asks-made : (old new : CoreView) (change : Change) → MakesChange old change new → Does old new (λ state. ask_step state change)
+pub asks-made : (old new : CoreView) (change : Change) → MakesChange old change new → Runs old new (λ state. ask_step state change)
 asks-made old new change (inl made) = λ told.
-    let P : Option ChangeRefused → Type 0 = λ o. FollowsUnlessStarved told old new (ask_step_if (state_of old told) change o) in
+    let P : Option ChangeRefused → Type 0 = λ o. RunsAt told old new (ask_step_if (state_with old told) change o) in
     subst P (sym made.0) (made.1 told)
-asks-made old new change (inr starves) = Does-starved old new (λ state. ask_step state change) starves
+asks-made old new change (inr starves) = Runs-starved old new (λ state. ask_step state change) starves
 
-pub asks-told : (old mid new : CoreView) (change : Change) (reason : ChangeRefused) (text : List ℕ) → RefusesChange old change reason mid → text ≡ refusal_text reason → Does mid new (λ state. refusal_step state text) → Does old new (λ state. ask_step state change)
+pub asks-told : (old mid new : CoreView) (change : Change) (reason : ChangeRefused) (text : List ℕ) → RefusesChange old change reason mid → text ≡ refusal_text reason → Runs mid new (λ state. refusal_step state text) → Runs old new (λ state. ask_step state change)
 asks-told old mid new change reason text refuses e done = λ told.
-    let P : Option ChangeRefused → Type 0 = λ o. FollowsUnlessStarved told old new (ask_step_if (state_of old told) change o) in
-    let Q : List ℕ → Type 0 = λ t. FollowsUnlessStarved told old new (refusal_step (state_of old told) t) in
-    subst P (sym refuses.refused) (subst Q e (Does-over old mid new (λ state. refusal_step state text) refuses.stays refuses.touches done told))
+    let P : Option ChangeRefused → Type 0 = λ o. RunsAt told old new (ask_step_if (state_with old told) change o) in
+    let Q : List ℕ → Type 0 = λ t. RunsAt told old new (refusal_step (state_with old told) t) in
+    subst P (sym refuses.refused) (subst Q e (Runs-over old mid new (λ state. refusal_step state text) refuses.stays refuses.touches done told))
 
 abbrev refusal_line : CoreView → List ℕ → Change
 refusal_line old text = told_refusal old.moment text
 
-tells-by : (old new : CoreView) (text : List ℕ) (o : Option ChangeRefused) → refusal old.world (refusal_line old text) ≡ o → Does old new (λ state. change_step_if state (refusal_line old text) o) → Does old new (λ state. refusal_step state text)
+tells-by : (old new : CoreView) (text : List ℕ) (o : Option ChangeRefused) → refusal old.world (refusal_line old text) ≡ o → Runs old new (λ state. change_step_if state (refusal_line old text) o) → Runs old new (λ state. refusal_step state text)
 tells-by old new text o e done = λ told.
-    let P : Option ChangeRefused → Type 0 = λ o. FollowsUnlessStarved told old new (change_step_if (state_of old told) (refusal_line old text) o) in
+    let P : Option ChangeRefused → Type 0 = λ o. RunsAt told old new (change_step_if (state_with old told) (refusal_line old text) o) in
     subst P (sym e) (done told)
 
-pub tells-made : (old new : CoreView) (text : List ℕ) → MakesChange old (told_refusal old.moment text) new → Does old new (λ state. refusal_step state text)
+pub tells-made : (old new : CoreView) (text : List ℕ) → MakesChange old (told_refusal old.moment text) new → Runs old new (λ state. refusal_step state text)
 tells-made old new text (inl made) = tells-by old new text None made.0 made.1
-tells-made old new text (inr starves) = Does-starved old new (λ state. refusal_step state text) starves
+tells-made old new text (inr starves) = Runs-starved old new (λ state. refusal_step state text) starves
 
-pub tells-skipped : (old new : CoreView) (text : List ℕ) (reason : ChangeRefused) → RefusesChange old (told_refusal old.moment text) reason new → Does old new (λ state. refusal_step state text)
-tells-skipped old new text reason refuses = tells-by old new text (Some reason) refuses.refused (Does-over old new new no_step refuses.stays refuses.touches (Does-stays new))
+pub tells-skipped : (old new : CoreView) (text : List ℕ) (reason : ChangeRefused) → RefusesChange old (told_refusal old.moment text) reason new → Runs old new (λ state. refusal_step state text)
+tells-skipped old new text reason refuses = tells-by old new text (Some reason) refuses.refused (Runs-over old new new no_step refuses.stays refuses.touches (Runs-stays new))
 
 pub tells-changed : (old new : CoreView) (text : List ℕ) (line : Change) (o : Option ChangeRefused) → line ≡ told_refusal old.moment text → (o ≡ None → MakesChange old line new)
-    → IfSome o (λ reason. RefusesChange old line reason new) → Does old new (λ state. refusal_step state text)
+    → IfSome o (λ reason. RefusesChange old line reason new) → Runs old new (λ state. refusal_step state text)
 tells-changed old new text line None e made refuses = let P : Change → Type 0 = λ line. MakesChange old line new in tells-made old new text (subst P e (made refl))
 tells-changed old new text line (Some reason) e made refuses =
     let P : Change → Type 0 = λ line. RefusesChange old line reason new in
@@ -187,10 +231,17 @@ not_same m n e same = by (nat_eq m n) refl e where
   by true q e = false≢true e
   by false q e = let ne : m ≢ n = grind (arith, nat_tests) in ne same
 
+-- and numbers that it does not
+pub are_same : (m n : ℕ) → not (nat_eq m n) ≡ false → m ≡ n
+are_same m n e = by (nat_eq m n) refl e where
+  by : (t : Bool) → nat_eq m n ≡ t → not t ≡ false → m ≡ n
+  by true q e = grind (arith, nat_tests)
+  by false q e = absurd (false≢true (sym e))
+
 -- what was resolved is done
-pub does-resolved : (old new : CoreView) (buffer : Handle) (typed : TypedCommand) (r : Effect) → r ≡ effect_of old.world old.moment buffer typed → Does old new (λ state. effect_step state r) → Does old new (λ state. typed_step state buffer typed)
+pub does-resolved : (old new : CoreView) (buffer : Handle) (typed : TypedCommand) (r : Effect) → r ≡ effect_of old.world old.moment buffer typed → Runs old new (λ state. effect_step state r) → Runs old new (λ state. typed_step state buffer typed)
 does-resolved old new buffer typed r e done = λ told.
-    let P : Effect → Type 0 = λ r. FollowsUnlessStarved told old new (effect_step (state_of old told) r) in
+    let P : Effect → Type 0 = λ r. RunsAt told old new (effect_step (state_with old told) r) in
     subst P e (done told)
 
 -- ---- the connection of a link
@@ -203,81 +254,114 @@ left_board : (old : CoreView) (k : ℕ) (s : Connection) (why : Cause) → at_ke
     → record (board_of old) { connections = put_at connection_link k (record { session = s.session; leaving = Some why }) old.connections } ≡ record (board_of old) { connections = left_at k why old.connections (at_key connection_link k old.connections) }
 left_board old k s why at sits = sym (ap (λ (o : Option Connection). record (board_of old) { connections = left_at k why old.connections o }) at ∙ ap (λ (t : Bool). record (board_of old) { connections = left_if t k why old.connections s }) sits)
 
--- the client of a link is marked as leaving
-leave-put : (old : CoreView) (k : ℕ) (s : Connection) (why : Cause) → at_key connection_link k old.connections ≡ Some s → is_open s ≡ true
-    → Does old (record old { connections = put_at connection_link k (record { session = s.session; leaving = Some why }) old.connections }) (λ state. leave_step state k why)
-leave-put old k s why at sits = λ told.
-    let y : Connection = record { session = s.session; leaving = Some why } in
-    FollowsUnlessStarved-exact told old (record old { connections = put_at connection_link k y old.connections }) (leave_step (state_of old told) k why)
-    (KeepsClients-put old k s y (steps-one (board_of old) (record (board_of old) { connections = put_at connection_link k y old.connections }) (Loses (record { link = k; cause = why; put = left_board old k s why at sits }))) at sits (at_key-key connection_link k old.connections s at)) (λ distinct j. leave-left told old k s why j at sits)
-    (λ distinct were. Follows-leave told old k s why distinct at sits were)
-
-pub starve-at : (old mid new : CoreView) (k : ℕ) → Does old mid (λ state. loss_step state k NoMemory (at_key client_link k state.clients)) → mid.starved ≡ old.starved → new ≡ record mid { starved = min (mid.starved + 1) (2 ^ 64 - 1) } → mid.starved ≤ new.starved → RanOutOfMemory old new
-starve-at old mid new k done same e rises =
-    let state = state_of old (plain_beside old) in
-    let lost = done (plain_beside old) in
-    record {
-      causes = λ distinct j.
-          let P : List Connection → Type 0 = λ connections. StaysOrStarves (leaving_on j old.connections) (leaving_on j connections) in
-          subst P (sym (ap (λ (c : CoreView). c.connections) e))
-          (lost-starves j k state (at_key client_link k (clients_of old.connections)) (leaving_on j old.connections) (leaving_on j mid.connections) (lost.causes distinct j));
-      keeps = KeepsClients-trans old mid new lost.keeps (KeepsClients-connections mid new (ap board_of e) rises (saves-as mid new (record mid { starved = min (mid.starved + 1) (2 ^ 64 - 1) }) e refl refl) (servers-same mid new (ap (λ (c : CoreView). c.servers) e)) (ap (λ (c : CoreView). c.verdicts) e));
-      counted = λ below. (let count : new.starved ≡ min (mid.starved + 1) (2 ^ 64 - 1) = ap (λ (c : CoreView). c.starved) e in omega (arith, count, same, below));
-    }
-
--- ---- losses
-
-pub lost-missing : (old : CoreView) (k : ℕ) (why : Cause) → at_key connection_link k old.connections ≡ None → Does old old (λ state. loss_step state k why (at_key client_link k state.clients))
-lost-missing old k why none = λ told. rw (client-missing k old.connections none) (Does-stays old told)
-
-pub lost-leaving : (old : CoreView) (k : ℕ) (why : Cause) (s : Connection) → at_key connection_link k old.connections ≡ Some s → is_open s ≡ false → Does old old (λ state. loss_step state k why (at_key client_link k state.clients))
-lost-leaving old k why s at leaving = λ told.
-    let step = loss_step (state_of old told) k why (at_key client_link k (clients_of old.connections)) in
-    FollowsUnlessStarved-exact told old old step (KeepsClients-refl old) (λ distinct. rw (client-leaving k old.connections s distinct at leaving) (leaves-none old (no_step (state_of old told)) (λ j. refl)))
-    (λ distinct were. rw (client-leaving k old.connections s distinct at leaving) (Follows-stays told old were))
-
-pub lost-open : (old new : CoreView) (k : ℕ) (why : Cause) (s : Connection) → at_key connection_link k old.connections ≡ Some s → is_open s ≡ true → Does old new (λ state. leave_step state k why)
-    → Does old new (λ state. loss_step state k why (at_key client_link k state.clients))
-lost-open old new k why s at sits done = λ told. rw (client-open k old.connections s at sits) (done told)
-
--- the client of a link is lost, where it is open
-pub lost-done : (old : CoreView) (k : ℕ) (why : Cause) → Does old (record old { connections = left_at k why old.connections (at_key connection_link k old.connections) }) (λ state. loss_step state k why (at_key client_link k state.clients))
-lost-done old k why = by (at_key connection_link k old.connections) refl
+-- the client of a link is marked as leaving, which is counted where it is for want of memory
+leave-put : (old : CoreView) (k : ℕ) (s : Connection) (why : Cause) (n : ℕ) → n ≡ starved_by why old.starved → old.starved ≤ n → at_key connection_link k old.connections ≡ Some s → is_open s ≡ true
+    → RunsFor (Some k) old (record old { connections = put_at connection_link k (record { session = s.session; leaving = Some why }) old.connections; starved = n }) (λ state. leave_step state k why)
+leave-put old k s why n counts rises at sits = λ told.
+    let of : List Client → Stepped = λ clients. leave_step (record (state_with old told) { clients = clients }) k why in
+    RunsAt-exact told old new of keeps
+    (by-one (board_of old) (board_of new) lost refl)
+    (record { dropped = want_number (Some why); short = 0; own = 0; lost = omega arith; leaving = starving_put k s y old.connections at sits; counted = counts ∙ starved_by-raised why old.starved ∙ ap (raised old.starved) (omega arith); cuts = refl })
+    (λ distinct j. leave-left (beside_in told) old k s why j at sits)
+    (λ distinct were. (let g = Follows-leave (beside_in told) old k s why distinct at sits were in record { means = record { same = g.means.same; told = g.means.told }; oracle = g.oracle; bytes = g.bytes; leaving = g.leaving; quits = g.quits; servers = g.servers; parts = g.parts }))
+    (λ distinct were. record { holds = record { same = refl; told = were }; is_on = inr refl; oracle = refl; quits = sym (or-false old.quits); servers = ServersFollow-refl old.servers })
   where
-    by : (o : Option Connection) → at_key connection_link k old.connections ≡ o → Does old (record old { connections = left_at k why old.connections o }) (λ state. loss_step state k why (at_key client_link k state.clients))
-    by None at = lost-missing old k why at
-    by (Some s) at = open-by (is_open s) refl
+    y : Connection
+    y = record { session = s.session; leaving = Some why }
+
+    new : CoreView
+    new = record old { connections = put_at connection_link k y old.connections; starved = n }
+
+    lost : BoardStep (board_of old) (board_of new)
+    lost = Loses (record { link = k; cause = why; put = left_board old k s why at sits })
+
+    keeps : KeepsClients old new
+    keeps =
+        let put = KeepsClients-put old k s y (steps-one (board_of old) (board_of new) lost) at sits (at_key-key connection_link k old.connections s at) in
+        record { board = put.board; rises = rises; links = put.links; kept = put.kept; saves = put.saves; servers = put.servers; verdicts = put.verdicts }
+
+-- the open client of a link leaves
+pub client-lost : (old new : CoreView) (k : ℕ) (why : Cause) → is_open_at (at_key connection_link k old.connections) ≡ true
+    → new ≡ record old { connections = left_at k why old.connections (at_key connection_link k old.connections); starved = starved_by why old.starved } → old.starved ≤ starved_by why old.starved → RunsFor (Some k) old new (λ state. leave_step state k why)
+client-lost old new k why opened e rises =
+    let P : CoreView → Type 0 = λ c. RunsFor (Some k) old c (λ state. leave_step state k why) in
+    subst P (sym e) (by (at_key connection_link k old.connections) refl opened)
+  where
+    by : (o : Option Connection) → at_key connection_link k old.connections ≡ o → is_open_at o ≡ true → RunsFor (Some k) old (record old { connections = left_at k why old.connections o; starved = starved_by why old.starved }) (λ state. leave_step state k why)
+    by None at sits = absurd (false≢true sits)
+    by (Some s) at sits =
+        let Q : Bool → Type 0 = λ t. RunsFor (Some k) old (record old { connections = left_if t k why old.connections s; starved = starved_by why old.starved }) (λ state. leave_step state k why) in
+        subst Q (sym sits) (leave-put old k s why (starved_by why old.starved) refl rises at sits)
+
+leave-starves : (j k : ℕ) (before after : Option Cause) → LeavesBy before (or_else (cond (nat_eq k j) (Some NoMemory) None) None) after → StaysOrStarves before after
+leave-starves j k before after (inr e) = e
+leave-starves j k before after (inl e) = by (nat_eq k j) before e where
+  by : (t : Bool) (before : Option Cause) → after ≡ or_else before (or_else (cond t (Some NoMemory) None) None) → StaysOrStarves before after
+  by true None e = inr e
+  by true (Some why) e = inl e
+  by false None e = inl e
+  by false (Some why) e = inl e
+
+-- it leaves as it finds no memory for what it asked, which is cut short
+pub asker-starves : (old new : CoreView) (k : ℕ) → is_open_at (at_key connection_link k old.connections) ≡ true → LosesAsker k old new → old.starved ≤ new.starved → RanOutFor (Some k) old new
+asker-starves old new k opened lost rises =
+    let P : Bool → Type 0 = λ t. LosesAskerIf t k old new in
+    starves (subst P opened lost)
+  where
+    left : List Connection
+    left = left_at k NoMemory old.connections (at_key connection_link k old.connections)
+
+    mid : CoreView
+    mid = record old { connections = left; starved = min (old.starved + 1) (2 ^ 64 - 1) }
+
+    starves : new ≡ record mid { cuts = min (old.cuts + 1) (2 ^ 64 - 1) } → RanOutFor (Some k) old new
+    starves e =
+        let count : new.starved ≡ min (old.starved + 1) (2 ^ 64 - 1) = ap (λ (c : CoreView). c.starved) e in
+        let cuts : new.cuts ≡ min (old.cuts + 1) (2 ^ 64 - 1) = ap (λ (c : CoreView). c.cuts) e in
+        let rest = rest_in old (plain_beside old) in
+        let f = client-lost old mid k NoMemory opened refl (omega (arith, rises, count)) rest in
+        let Q : CoreView → Type 0 = λ c. KeepsClients old c in
+        let R : List Connection → Type 0 = λ connections. starving_number connections ≡ starving_number old.connections + 1 in
+        record {
+          keeps = subst Q (sym e) (record { board = f.keeps.board; rises = f.keeps.rises; links = f.keeps.links; kept = f.keeps.kept; saves = f.keeps.saves; servers = f.keeps.servers; verdicts = f.keeps.verdicts });
+          board = (let S : BoardView → Type 0 = λ board. StepsBy (Some k) (board_of old) board in subst S (sym (ap board_of e)) f.board);
+          counts = record { dropped = 1; short = 0; own = 1; lost = omega arith; leaving = subst R (sym (ap (λ (c : CoreView). c.connections) e)) (one_more (at_key connection_link k old.connections) refl opened); counted = count; cuts = cuts };
+          causes = λ distinct j.
+              let S : List Connection → Type 0 = λ connections. StaysOrStarves (leaving_on j old.connections) (leaving_on j connections) in
+              subst S (sym (ap (λ (c : CoreView). c.connections) e)) (leave-starves j k (leaving_on j old.connections) (leaving_on j left) (f.causes refl distinct j));
+          counted = λ below. omega (arith, count, below);
+          cut = λ below. omega (arith, cuts, below);
+          holds = λ told were. (let T : CoreView → Type 0 = λ c. Holds c (state_with old told) in subst T (sym e) (record { same = refl; told = were }));
+        }
       where
-        open-by : (t : Bool) → is_open s ≡ t → Does old (record old { connections = left_if t k why old.connections s }) (λ state. loss_step state k why (at_key client_link k state.clients))
-        open-by true sits = lost-open old _ k why s at sits (leave-put old k s why at sits)
-        open-by false leaving = lost-leaving old k why s at leaving
-
--- the loss of an open client
-pub lost-leaves : (old new : CoreView) (k : ℕ) (why : Cause) → is_open_at (at_key connection_link k old.connections) ≡ true → Does old new (λ state. loss_step state k why (at_key client_link k state.clients)) → Does old new (λ state. leave_step state k why)
-lost-leaves old new k why opened done = λ told. by told (at_key connection_link k old.connections) refl opened where
-  P : Beside → Option Client → Type 0
-  P told o = FollowsUnlessStarved told old new (loss_step (state_of old told) k why o)
-
-  by : (told : Beside) (o : Option Connection) → at_key connection_link k old.connections ≡ o → is_open_at o ≡ true → FollowsUnlessStarved told old new (leave_step (state_of old told) k why)
-  by told None at sits = absurd (false≢true sits)
-  by told (Some s) at sits = subst (P told) (client-open k old.connections s at sits) (done told)
+        one_more : (o : Option Connection) → at_key connection_link k old.connections ≡ o → is_open_at o ≡ true → starving_number (left_at k NoMemory old.connections o) ≡ starving_number old.connections + 1
+        one_more None at sits = absurd (false≢true sits)
+        one_more (Some s) at sits =
+            let U : Bool → Type 0 = λ t. starving_number (left_if t k NoMemory old.connections s) ≡ starving_number old.connections + 1 in
+            subst U (sym sits) (starving_put k s (record s { leaving = Some NoMemory }) old.connections at sits)
 
 -- ---- lines of clients
 
-pub line-missing : (old : CoreView) (k : ℕ) (line : List ℕ) → at_key connection_link k old.connections ≡ None → Does old old (λ state. line_step state line (at_key client_link k state.clients))
-line-missing old k line none = λ told. rw (client-missing k old.connections none) (Does-stays old told)
+pub line-missing : (old : CoreView) (k : ℕ) (line : List ℕ) → at_key connection_link k old.connections ≡ None → RunsHere k old old (λ state. line_step state line (at_key client_link k state.clients))
+line-missing old k line none = λ told. rw (client-missing k old.connections none) (Runs-stays old (rest_in old told))
 
-pub line-leaving : (old : CoreView) (k : ℕ) (line : List ℕ) (s : Connection) → at_key connection_link k old.connections ≡ Some s → is_open s ≡ false → Does old old (λ state. line_step state line (at_key client_link k state.clients))
+pub line-leaving : (old : CoreView) (k : ℕ) (line : List ℕ) (s : Connection) → at_key connection_link k old.connections ≡ Some s → is_open s ≡ false → RunsHere k old old (λ state. line_step state line (at_key client_link k state.clients))
 line-leaving old k line s at leaving = λ told.
-    let step = line_step (state_of old told) line (at_key client_link k (clients_of old.connections)) in
-    FollowsUnlessStarved-exact told old old step (KeepsClients-refl old) (λ distinct. rw (client-leaving k old.connections s distinct at leaving) (leaves-none old (no_step (state_of old told)) (λ j. refl)))
-    (λ distinct were. rw (client-leaving k old.connections s distinct at leaving) (Follows-stays told old were))
+    let rest = rest_in old told in
+    record {
+      keeps = KeepsClients-refl old;
+      board = by-same (board_of old) (board_of old) refl;
+      counts = Counts-refl old;
+      causes = λ here distinct j. rw (client-leaving k old.connections s distinct at leaving) (inl (leaves-none old (no_step (state_of old told)) (λ j. refl) j));
+      does = λ here same below distinct were agrees. rw (client-leaving k old.connections s distinct at leaving) (Follows-stays told old were);
+      contains = λ below distinct were agrees. rw (client-leaving k old.connections s distinct at leaving) (contained-none rest old were);
+    }
 
 pub line-asked : (old new : CoreView) (k : ℕ) (line : List ℕ) (s : Connection) (request : Option Request) → at_key connection_link k old.connections ≡ Some s → is_open s ≡ true → request ≡ request_of s.session.client.escaped line
-    → Does old new (λ state. request_step state s.session.client request) → Does old new (λ state. line_step state line (at_key client_link k state.clients))
+    → RunsFor (Some k) old new (λ state. request_step state s.session.client request) → RunsHere k old new (λ state. line_step state line (at_key client_link k state.clients))
 line-asked old new k line s request at sits e done = λ told.
-    let P : Option Request → Type 0 = λ r. FollowsUnlessStarved told old new (request_step (state_of old told) s.session.client r) in
-    rw (client-open k old.connections s at sits) (subst P e (done told))
+    let P : Option Request → Type 0 = λ r. RunsBy (Some k) (rest_in old told) old new (request_step (state_of old told) s.session.client r) in
+    rw (client-open k old.connections s at sits) (subst P e (done (rest_in old told)))
 
 -- ---- requests
 
@@ -285,27 +369,29 @@ line-asked old new k line s request at sits e done = λ told.
 abbrev pub replied : CoreView → ℕ → Known → CoreView
 replied old k session' = record old { connections = put_at connection_link k (record { session = session'; leaving = None }) old.connections }
 
-ask-answer : (old new : CoreView) (k : ℕ) (s : Connection) (session' : Known) (answer : Answer) (result : Outcome) → BoardSteps (board_of old) (board_of (replied old k session')) → at_key connection_link k old.connections ≡ Some s → is_open s ≡ true → answer.client.link ≡ s.session.client.link
-    → AnswersRequest s.session session' result answer → Does (replied old k session') new (λ state. outcome_step state k result)
-    → Does old new (λ state. answer_step state (client_link s.session.client) answer)
-ask-answer old new k s session' answer result steps at sits same answered done = λ told.
+ask-answer : (old new : CoreView) (k : ℕ) (s : Connection) (session' : Known) (answer : Answer) (result : Outcome) → (step : BoardStep (board_of old) (board_of (replied old k session'))) → IsBy (Some k) (board_of old) (board_of (replied old k session')) step → at_key connection_link k old.connections ≡ Some s → is_open s ≡ true → answer.client.link ≡ s.session.client.link
+    → AnswersRequest s.session session' result answer → RunsFor (Some k) (replied old k session') new (λ state. outcome_step state k result)
+    → RunsFor (Some k) old new (λ state. answer_step state (client_link s.session.client) answer)
+ask-answer old new k s session' answer result step own at sits same answered done = λ told.
     let here : client_link s.session.client ≡ k = at_key-key connection_link k old.connections s at in
     let key : client_link session'.client ≡ k = ap (λ (c : Client). client_link c) answered.client ∙ ap (λ (l : LinkId). l.0) same ∙ here in
+    let y : Connection = record { session = session'; leaving = None } in
     let mid = replied old k session' in
-    let before = state_of old told in
-    let of : Client → Stepped = λ client. record { state = record before { clients = put_at client_link k client (clients_of old.connections) }; acts = sends k answer.messages } in
-    let P : Client → Type 0 = λ client. FollowsUnlessStarved told old mid (of client) in
-    let reply : FollowsUnlessStarved told old mid (of answer.client) = subst P answered.client
-    (FollowsUnlessStarved-exact told old mid (of session'.client)
-    (KeepsClients-put old k s (record { session = session'; leaving = None }) steps at sits key) (λ distinct j. reply-left old k s session' answer.messages j at sits key)
-    (λ distinct were. Follows-reply told old k s session' answer.messages at sits key answered.sends.bytes were)) in
-    let Q : Outcome → Type 0 = λ o. Does mid new (λ state. outcome_step state k o) in
-    rw here (FollowsUnlessStarved-then told old mid new (of answer.client) (λ next. outcome_step next k answer.outcome) (reply-later mid k (of answer.client).state answer.messages answer.outcome) reply (subst Q answered.outcome done))
+    let of : Client → List Client → Stepped = λ client clients. reach_step (record (state_with old told) { clients = put_at client_link k client clients }) (sends k answer.messages) in
+    let P : Client → Type 0 = λ client. RunsBy (Some k) told old mid (of client told.clients) in
+    let reply : RunsBy (Some k) told old mid (of answer.client told.clients) = subst P answered.client
+    (RunsAt-exact told old mid (of session'.client)
+    (KeepsClients-put old k s y (steps-one (board_of old) (board_of mid) step) at sits key) (by-one (board_of old) (board_of mid) step own) (counts-none old mid (let n = starving_put k s y old.connections at sits in omega (arith, n)) refl refl)
+    (λ distinct j. reply-left old k s session' answer.messages j at sits key)
+    (λ distinct were. Follows-reply (beside_in told) old k s session' answer.messages at sits key answered.sends.bytes were)
+    (λ distinct were. record { holds = record { same = refl; told = were }; is_on = inr refl; oracle = refl; quits = sym (ap (λ t. old.quits || t) (end-sends k answer.messages) ∙ or-false old.quits); servers = no-outs old mid (sends k answer.messages) refl (outs-sends k answer.messages) })) in
+    let Q : Outcome → Type 0 = λ o. RunsFor (Some k) mid new (λ state. outcome_step state k o) in
+    rw here (RunsAt-then told old mid new (of answer.client told.clients) (λ next. outcome_step next k answer.outcome) (reply-later mid k (of answer.client told.clients).state answer.messages answer.outcome) refl reply (subst Q answered.outcome done))
 
--- the board as its client is answered
+-- the client is answered
 answered_steps : (old : CoreView) (k : ℕ) (s : Connection) (session' : Known) (request : Request) (result : Outcome) → at_key connection_link k old.connections ≡ Some s → is_open s ≡ true
-    → OnServed result (AnswersRequest s.session session' result (reply_of old.world old.options s.session.client request)) → OnNoMemory result (session' ≡ s.session) → BoardSteps (board_of old) (board_of (replied old k session'))
-answered_steps old k s session' request result at sits answered same = steps-one (board_of old) (board_of (replied old k session')) (Answers (record {
+    → OnServed result (AnswersRequest s.session session' result (reply_of old.world old.options s.session.client request)) → OnNoMemory result (session' ≡ s.session) → AnswersClient (board_of old) (board_of (replied old k session'))
+answered_steps old k s session' request result at sits answered same = record {
   link = k;
   connection = s;
   options = old.options;
@@ -319,28 +405,30 @@ answered_steps old k s session' request result at sits answered same = steps-one
     refused = same;
     put = ap (λ (leaving : Option Cause). record (board_of old) { connections = put_at connection_link k (record { session = session'; leaving = leaving }) old.connections }) (sym (open_none s sits));
   };
-}))
+}
+
+-- a client that found no memory for a reply is as it was
+put-same : (k : ℕ) (s : Connection) (connections : List Connection) → at_key connection_link k connections ≡ Some s → put_at connection_link k s connections ≡ connections
+put-same k s connections at = put_at-same connection_link k connections s at
 
 -- a request of an open client, whose answer was followed
 pub ask-served : (old new : CoreView) (k : ℕ) (s : Connection) (session' : Known) (request : Request) (result : Outcome) → at_key connection_link k old.connections ≡ Some s → is_open s ≡ true → RequestIsUtf8 request
     → OnServed result (AnswersRequest s.session session' result (reply_of old.world old.options s.session.client request)) → OnNoMemory result (session' ≡ s.session)
-    → OnServed result (Does (replied old k session') new (λ state. outcome_step state k result)) → OnNoMemory result (RanOutOfMemory (replied old k session') new)
-    → Does old new (λ state. reply_step state s.session.client request)
-ask-served old new k s session' request outcome.Replied at sits utf8 answered same done starved = ask-answer old new k s session' (reply_of old.world old.options s.session.client request) outcome.Replied (answered_steps old k s session' request outcome.Replied at sits answered same) at sits (reply_fits old.world old.options s.session.client request utf8).link answered done
-ask-served old new k s session' request outcome.Silent at sits utf8 answered same done starved = ask-answer old new k s session' (reply_of old.world old.options s.session.client request) outcome.Silent (answered_steps old k s session' request outcome.Silent at sits answered same) at sits (reply_fits old.world old.options s.session.client request utf8).link answered done
-ask-served old new k s session' request (outcome.Input buffer text) at sits utf8 answered same done starved = ask-answer old new k s session' (reply_of old.world old.options s.session.client request) (outcome.Input buffer text) (answered_steps old k s session' request (outcome.Input buffer text) at sits answered same) at sits (reply_fits old.world old.options s.session.client request utf8).link answered done
-ask-served old new k s session' request (outcome.Leave why) at sits utf8 answered same done starved = ask-answer old new k s session' (reply_of old.world old.options s.session.client request) (outcome.Leave why) (answered_steps old k s session' request (outcome.Leave why) at sits answered same) at sits (reply_fits old.world old.options s.session.client request utf8).link answered done
-ask-served old new k s session' request outcome.NoMemory at sits utf8 answered same done starved =
-    let key : client_link session'.client ≡ k = ap (λ (known : Known). client_link known.client) same ∙ at_key-key connection_link k old.connections s at in
-    let mid = replied old k session' in
-    let keeps = KeepsClients-put old k s (record { session = session'; leaving = None }) (answered_steps old k s session' request outcome.NoMemory at sits answered same) at sits key in
-    Does-starved old new (λ state. reply_step state s.session.client request) (record {
-      keeps = KeepsClients-trans old mid new keeps starved.keeps;
-      causes = λ distinct j.
-          let P : Option Cause → Type 0 = λ before. StaysOrStarves before (leaving_on j new.connections) in
-          subst P (leaving-put old k s session' j at sits key) (starved.causes (subst Distinct (sym keeps.links) distinct) j);
-      counted = starved.counted;
-    })
+    → OnServed result (RunsFor (Some k) (replied old k session') new (λ state. outcome_step state k result)) → OnNoMemory result (LosesAsker k (replied old k session') new) → old.starved ≤ new.starved
+    → RunsFor (Some k) old new (λ state. reply_step state s.session.client request)
+unfolding answered_steps
+ask-served old new k s session' request outcome.Replied at sits utf8 answered same done lost rises = ask-answer old new k s session' (reply_of old.world old.options s.session.client request) outcome.Replied (Answers (answered_steps old k s session' request outcome.Replied at sits answered same)) refl at sits (reply_fits old.world old.options s.session.client request utf8).link answered done
+ask-served old new k s session' request outcome.Silent at sits utf8 answered same done lost rises = ask-answer old new k s session' (reply_of old.world old.options s.session.client request) outcome.Silent (Answers (answered_steps old k s session' request outcome.Silent at sits answered same)) refl at sits (reply_fits old.world old.options s.session.client request utf8).link answered done
+ask-served old new k s session' request (outcome.Input buffer text) at sits utf8 answered same done lost rises = ask-answer old new k s session' (reply_of old.world old.options s.session.client request) (outcome.Input buffer text) (Answers (answered_steps old k s session' request (outcome.Input buffer text) at sits answered same)) refl at sits (reply_fits old.world old.options s.session.client request utf8).link answered done
+ask-served old new k s session' request (outcome.Leave why) at sits utf8 answered same done lost rises = ask-answer old new k s session' (reply_of old.world old.options s.session.client request) (outcome.Leave why) (Answers (answered_steps old k s session' request (outcome.Leave why) at sits answered same)) refl at sits (reply_fits old.world old.options s.session.client request utf8).link answered done
+ask-served old new k s session' request outcome.NoMemory at sits utf8 answered same done lost rises =
+    let C : Known → CoreView = λ session. replied old k session in
+    let D : List Connection → CoreView = λ connections. record old { connections = connections } in
+    let stays : replied old k session' ≡ old =
+    ap C same ∙ ap (λ leaving. D (put_at connection_link k (record { session = s.session; leaving = leaving }) old.connections)) (sym (open_none s sits)) ∙ ap D (put-same k s old.connections at) in
+    let P : CoreView → Type 0 = λ c. LosesAsker k c new in
+    let opened : is_open_at (at_key connection_link k old.connections) ≡ true = ap is_open_at at ∙ sits in
+    Runs-starved old new (λ state. reply_step state s.session.client request) (asker-starves old new k opened (subst P stays lost) rises)
 
 -- the text that a request types is text
 pub outcome-text : (world : World) (options : OptionsValue) (client : Client) (request : Request) (old new : Known) (result : Outcome) → RequestIsUtf8 request
@@ -363,12 +451,18 @@ pushes_before-closes j client request state = by (client.logged_in && is_nicklis
   by true = pushes-closes j state
   by false = refl
 
--- nothing is answered, for want of memory
-answer-starved : (between mid new : CoreView) (result : Outcome) (step : State → Stepped) → mid ≡ record between { connections = mid.connections } → result ≡ outcome.NoMemory → mid.connections ≡ between.connections → OnNoMemory result (RanOutOfMemory mid new) → Does between new step
-answer-starved between mid new result step e starves stays starved =
-    let P : Outcome → Type 0 = λ o. OnNoMemory o (RanOutOfMemory mid new) in
-    let Q : CoreView → Type 0 = λ c. RanOutOfMemory c new in
-    Does-starved between new step (subst Q (e ∙ ap (λ (connections : List Connection). record between { connections = connections }) stays) (subst P starves starved))
+-- nothing is answered: who asked left before that, and what it asked is cut short
+abbrev pub CutAfterwards : ℕ → CoreView → CoreView → Type 0
+CutAfterwards k between new = (is_open_at (at_key connection_link k between.connections) ≡ false) × (new ≡ record between { cuts = min (between.cuts + 1) (2 ^ 64 - 1) })
+
+answer-shut : (between mid new : CoreView) (k : ℕ) (result : Outcome) → mid ≡ record between { connections = mid.connections } → result ≡ outcome.NoMemory → mid.connections ≡ between.connections → OnNoMemory result (LosesAsker k mid new)
+    → is_open_at (at_key connection_link k between.connections) ≡ false → CutAfterwards k between new
+answer-shut between mid new k result e starves stays lost shut =
+    let P : Outcome → Type 0 = λ o. OnNoMemory o (LosesAsker k mid new) in
+    let Q : CoreView → Type 0 = λ c. LosesAsker k c new in
+    let R : Bool → Type 0 = λ t. LosesAskerIf t k between new in
+    let same : mid ≡ between = e ∙ ap (λ (connections : List Connection). record between { connections = connections }) stays in
+    (shut, subst R shut (subst Q same (subst P starves lost)))
 
 -- whom a reply closes hangs on the world and the options alone
 reply-closes-same : (j : ℕ) (client : Client) (request : Request) (s t : State) → s.world ≡ t.world → s.options ≡ t.options → close_of j (reply_step s client request).acts ≡ close_of j (reply_step t client request).acts
@@ -384,21 +478,22 @@ reply-closes-same j client request s t world options =
 answer-done : (between mid new : CoreView) (k : ℕ) (client : Client) (request : Request) (result : Outcome) (o : Option Connection) → at_key connection_link k between.connections ≡ o → ((now : Connection) → o ≡ Some now → is_open now ≡ true → now.session.client ≡ client)
     → RequestIsUtf8 request → mid ≡ record between { connections = mid.connections }
     → AnsweredAt k between.options request result (record { world = between.world; pending = between.pending; connections = between.connections }) (record { world = mid.world; pending = mid.pending; connections = mid.connections }) o
-    → OnServed result (Does mid new (λ state. outcome_step state k result)) → OnNoMemory result (RanOutOfMemory mid new) → Does between new (λ state. reply_step state client request)
-answer-done between mid new k client request result None at same utf8 e answered done starved = answer-starved between mid new result (λ state. reply_step state client request) e answered.starves (ap (λ (b : BoardView). b.connections) answered.stays) starved
-answer-done between mid new k client request result (Some now) at same utf8 e answered done starved = by (is_open now) refl answered
+    → OnServed result (RunsFor (Some k) mid new (λ state. outcome_step state k result)) → OnNoMemory result (LosesAsker k mid new) → between.starved ≤ new.starved → RunsFor (Some k) between new (λ state. reply_step state client request) ⊎ CutAfterwards k between new
+answer-done between mid new k client request result None at same utf8 e answered done lost rises = inr (answer-shut between mid new k result e answered.starves (ap (λ (b : BoardView). b.connections) answered.stays) lost (ap is_open_at at))
+answer-done between mid new k client request result (Some now) at same utf8 e answered done lost rises = by (is_open now) refl answered
   where
     by : (t : Bool) → is_open now ≡ t
-        → AnsweredIf t k between.options request result (record { world = between.world; pending = between.pending; connections = between.connections }) (record { world = mid.world; pending = mid.pending; connections = mid.connections }) now → Does between new (λ state. reply_step state client request)
-    by false sits answered = answer-starved between mid new result (λ state. reply_step state client request) e answered.starves (ap (λ (b : BoardView). b.connections) answered.stays) starved
+        → AnsweredIf t k between.options request result (record { world = between.world; pending = between.pending; connections = between.connections }) (record { world = mid.world; pending = mid.pending; connections = mid.connections }) now
+        → RunsFor (Some k) between new (λ state. reply_step state client request) ⊎ CutAfterwards k between new
+    by false sits answered = inr (answer-shut between mid new k result e answered.starves (ap (λ (b : BoardView). b.connections) answered.stays) lost (ap is_open_at at ∙ sits))
     by true sits answered =
         let put : mid.connections ≡ put_at connection_link k (record { session = answered.session; leaving = None }) between.connections =
         ap (λ (b : BoardView). b.connections) answered.put ∙ ap (λ leaving. put_at connection_link k (record { session = answered.session; leaving = leaving }) between.connections) (open_none now sits) in
         let there : mid ≡ replied between k answered.session = e ∙ ap (λ (connections : List Connection). record between { connections = connections }) put in
-        let P : CoreView → Type 0 = λ c. OnServed result (Does c new (λ state. outcome_step state k result)) in
-        let Q : CoreView → Type 0 = λ c. OnNoMemory result (RanOutOfMemory c new) in
-        let R : Client → Type 0 = λ client. Does between new (λ state. reply_step state client request) in
-        subst R (same now refl sits) (ask-served between new k now answered.session request result at sits utf8 answered.answered answered.refused (subst P there done) (subst Q there starved))
+        let P : CoreView → Type 0 = λ c. OnServed result (RunsFor (Some k) c new (λ state. outcome_step state k result)) in
+        let Q : CoreView → Type 0 = λ c. OnNoMemory result (LosesAsker k c new) in
+        let R : Client → Type 0 = λ client. RunsFor (Some k) between new (λ state. reply_step state client request) in
+        inl (subst R (same now refl sits) (ask-served between new k now answered.session request result at sits utf8 answered.answered answered.refused (subst P there done) (subst Q there lost) rises))
 
 push_before-world : (client : Client) (request : Request) (state : State) → (push_before client request state).state.world ≡ state.world
 push_before-world client request state = by (client.logged_in && is_nicklist request.command) where
@@ -412,23 +507,70 @@ push_before-options client request state = by (client.logged_in && is_nicklist r
   by true = refl
   by false = refl
 
-pub ask-done : (old mid new : CoreView) (k : ℕ) (request : Request) (result : Outcome) → AnswersRequestOf k request result old mid → RequestIsUtf8 request
-    → OnServed result (Does mid new (λ state. outcome_step state k result)) → OnNoMemory result (RanOutOfMemory mid new)
-    → IfSome (at_key connection_link k old.connections) (λ connection. Does old new (λ state. request_step state connection.session.client (Some request)))
-ask-done old mid new k request result is utf8 done starved = by (at_key connection_link k old.connections) refl is.pushed
+-- who asked left in the pushes before the answer, and what it asked is cut short
+cut-after-pushes : {own : Option ℕ} → (told : Rest) (old between new : CoreView) (k : ℕ) (first : Stepped) (next : State → Stepped) → ((j : ℕ) → close_of j first.acts ≡ None) → between.cuts ≡ old.cuts → (old.starved < 2 ^ 64 - 1 → between.starved ≢ old.starved)
+    → Counts 0 old new → RunsBy own told old between first → new ≡ record between { cuts = min (between.cuts + 1) (2 ^ 64 - 1) } → RunsBy own told old new (then_does first next)
+cut-after-pushes told old between new k first next none uncut drops counts f e =
+    let after : CoreView = record between { cuts = min (between.cuts + 1) (2 ^ 64 - 1) } in
+    let cuts : new.cuts ≡ min (between.cuts + 1) (2 ^ 64 - 1) = ap (λ (c : CoreView). c.cuts) e in
+    let starved : new.starved ≡ between.starved = ap (λ (c : CoreView). c.starved) e in
+    let verdicts : new.verdicts ≡ between.verdicts = ap (λ (c : CoreView). c.verdicts) e in
+    let P : VerdictsView → Type 0 = λ v. Agrees told.oracle v in
+    record {
+      keeps = KeepsClients-trans old between new f.keeps (KeepsClients-connections between new (ap board_of e) (omega (arith, starved)) (saves-as between new after e refl refl) (servers-same between new (ap (λ (c : CoreView). c.servers) e)) verdicts);
+      board = by-both (board_of old) (board_of between) (board_of new) f.board (by-same (board_of between) (board_of new) (ap board_of e));
+      counts = counts;
+      causes = λ here distinct j.
+          let Q : CoreView → Type 0 = λ c. StaysOrStarves (leaving_on j old.connections) (leaving_on j c.connections) in
+          inr (subst Q (sym e) (stays-by old between j (close_of j first.acts) (none j) (f.causes here distinct j)));
+      does = λ here same below distinct were agrees. absurd (drops below (sym starved ∙ same));
+      contains = λ below distinct were agrees.
+          let first_done = (f.contains below distinct were (subst P verdicts agrees)).whole uncut in
+          let R : CoreView → Type 0 = λ c. Holds c first.state in
+          record {
+            whole = λ same. absurd (omega (arith, cuts, same, uncut, below));
+            part = record { state = first.state; is_on = IsOn-first first.state (state_with old told) first.way (next first.state).way first_done.is_on; holds = subst R (sym e) (record { same = first_done.holds.same; told = first_done.holds.told }) };
+          };
+    }
+
+pub ask-done : (old mid new : CoreView) (k : ℕ) (request : Request) (result : Outcome) → is_open_at (at_key connection_link k old.connections) ≡ true → AnswersRequestOf k request result old mid → RequestIsUtf8 request
+    → OnServed result (RunsFor (Some k) mid new (λ state. outcome_step state k result)) → OnNoMemory result (LosesAsker k mid new) → mid.starved ≤ new.starved
+    → IfSome (at_key connection_link k old.connections) (λ connection. RunsFor (Some k) old new (λ state. request_step state connection.session.client (Some request)))
+ask-done old mid new k request result opened is utf8 done lost rises = by (at_key connection_link k old.connections) refl is.pushed
   where
-    by : (o : Option Connection) → at_key connection_link k old.connections ≡ o → IfSome o (λ connection. Does old is.between (λ state. push_before connection.session.client request state)) → IfSome o (λ connection. Does old new (λ state. request_step state connection.session.client (Some request)))
+    by : (o : Option Connection) → at_key connection_link k old.connections ≡ o → IfSome o (λ connection. Runs old is.between (λ state. push_before connection.session.client request state)) → IfSome o (λ connection. RunsFor (Some k) old new (λ state. request_step state connection.session.client (Some request)))
     by None at pushed = tt
     by (Some s) at pushed = λ told.
-        let client = s.session.client in
-        let state = state_of old told in
-        let first = push_before client request state in
-        let next : State → Stepped = λ next. reply_step next client request in
-        let P : Stepped → Type 0 = λ step. FollowsUnlessStarved told old new step in
-        let Q : OptionsValue → Type 0 = λ options. AnsweredAt k options request result (record { world = is.between.world; pending = is.between.pending; connections = is.between.connections }) (record { world = mid.world; pending = mid.pending; connections = mid.connections }) (at_key connection_link k is.between.connections) in
-        let reply = answer-done is.between mid new k client request result (at_key connection_link k is.between.connections) refl (λ now here sits. is.same s now at here sits) utf8 is.answered (subst Q (sym is.options) is.board) done starved in
-        let closes : ClosesLater is.between first next = record { first_none = λ j. pushes_before-closes j client request state; same = λ j. reply-closes-same j client request (state_of is.between (beside first.state)) first.state (is.world ∙ sym (push_before-world client request state)) (is.options ∙ sym (push_before-options client request state)) } in
-        subst P (sym (request-parts client request state)) (FollowsUnlessStarved-then told old is.between new first next closes (pushed told) reply)
+        let P : Stepped → Type 0 = λ step. RunsBy (Some k) told old new step in
+        subst P (sym (request-parts client request (state_with old told))) (whole told reply)
+      where
+        client : Client
+        client = s.session.client
+
+        next : State → Stepped
+        next state = reply_step state client request
+
+        less : is.between.starved ≤ new.starved
+        less = (let e = ap (λ (c : CoreView). c.starved) is.answered in omega (arith, e, rises))
+
+        reply : RunsFor (Some k) is.between new next ⊎ CutAfterwards k is.between new
+        reply =
+            let Q : OptionsValue → Type 0 = λ options. AnsweredAt k options request result (record { world = is.between.world; pending = is.between.pending; connections = is.between.connections }) (record { world = mid.world; pending = mid.pending; connections = mid.connections }) (at_key connection_link k is.between.connections) in
+            answer-done is.between mid new k client request result (at_key connection_link k is.between.connections) refl (λ now here sits. is.same s now at here sits) utf8 is.answered (subst Q (sym is.options) is.board) done lost less
+
+        whole : (told : Rest) → RunsFor (Some k) is.between new next ⊎ CutAfterwards k is.between new → RunsBy (Some k) told old new (then_does (push_before client request (state_with old told)) next)
+        whole told (inl run) =
+            let first = push_before client request (state_with old told) in
+            let closes : ClosesLater is.between first next = record { first_none = λ j. pushes_before-closes j client request (state_with old told); same = λ j. reply-closes-same j client request (state_of is.between (beside first.state)) first.state (is.world ∙ sym (push_before-world client request (state_with old told))) (is.options ∙ sym (push_before-options client request (state_with old told))) } in
+            RunsAt-then told old is.between new first next closes is.uncut (RunsBy-any (Some k) told old is.between first (pushed told)) run
+        whole told (inr cut) =
+            cut-after-pushes told old is.between new k (push_before client request (state_with old told)) next (λ j. pushes_before-closes j client request (state_with old told)) is.uncut drops (counts-after-drops old is.between new is.dropped some is.left is.counted is.uncut cut.1) (RunsBy-any (Some k) told old is.between (push_before client request (state_with old told)) (pushed told)) cut.1
+          where
+            some : 0 < is.dropped
+            some = is.asker opened cut.0
+
+            drops : old.starved < 2 ^ 64 - 1 → is.between.starved ≢ old.starved
+            drops below same = (let none = raised-none old.starved is.dropped below (sym is.counted ∙ same) in omega (arith, none, some))
 
 -- ---- arrivals
 
@@ -440,10 +582,10 @@ used_core link old = record old { servers = used_up link old.servers }
 arrival-oracle : (state : State) (link : ℕ) (nonce : List ℕ) → (arrival_step state link nonce).state.oracle ≡ state.oracle
 arrival-oracle state link nonce = by (nat_lt (length state.clients) (client_limit state.options)) where
   came_to : Stepped
-  came_to = no_step (record state { clients = state.clients ++ new_client state.options (record { 0 = link }) nonce ∷ []; used = max state.used link })
+  came_to = put_step (record state { clients = state.clients ++ new_client state.options (record { 0 = link }) nonce ∷ []; used = max state.used link })
 
   taken : Stepped
-  taken = record { state = record state { used = max state.used link }; acts = Closes link Surplus ∷ [] }
+  taken = reach_step (record state { used = max state.used link }) (Closes link Surplus ∷ [])
 
   by : (t : Bool) → (cond t came_to taken).state.oracle ≡ state.oracle
   by true = refl

@@ -14,10 +14,10 @@ use Rattle.wc_core.proofs.ComeLemmas.{ServersKeep-refl, ServersKeep-trans, Leave
 use Rattle.wc_core.specs.State.{State, Act, Stepped, is_end, has_end}
 use Rattle.wc_core.specs.Step.{no_step, then_does}
 use Rattle.wc_board.specs.Connections.{connection_link, unsent_on, leaving_in, leaving_on}
-use Rattle.wc_core.specs.Served.{links_of, state_of, WereTold, sent_by, sent_to, or_else, close_by, close_of, outs_by, outs_of, Distinct, Follows, LeavesBy, KeepsSaved, KeepsClients, FollowsUnlessStarved, Does, RanOutOfMemory, ChangesBuffers, ChangesServers}
+use Rattle.wc_core.specs.Served.{links_of, state_of, WereTold, sent_by, sent_to, or_else, close_by, close_of, outs_by, outs_of, Distinct, Follows, LeavesBy, KeepsSaved, KeepsClients, FollowsUnlessStarved, Does, ChangesBuffers, ChangesServers}
 use Rattle.wc_board.specs.Served.{StaysOrStarves}
 use Rattle.wc_core.specs.State.{Beside, beside}
-use Rattle.wc_eval.specs.Verdicts.{Oracle, Agrees, Stay, VerdictsView}
+use Rattle.wc_eval.specs.Verdicts.{Oracle, Agrees}
 use Rattle.wc_core.specs.BoardSteps.{board_of}
 use Rattle.wc_core.proofs.BoardStepLemmas.{steps-none, steps-both, steps-same}
 use Rattle.wc_core.proofs.OracleLemmas.{Stay-refl, Stay-trans, Agrees-before, verdicts-same}
@@ -38,7 +38,7 @@ pub close_of-append : (j : ℕ) (a b : List Act) → close_of j (a ++ b) ≡ or_
 close_of-append j [] b = refl
 close_of-append j (x ∷ a) b = ap (λ o. or_else (close_by j x) o) (close_of-append j a b) ∙ sym (or_else-assoc (close_by j x) (close_of j a) (close_of j b))
 
-or-assoc : (a b c : Bool) → ((a || b) || c) ≡ (a || (b || c))
+pub or-assoc : (a b c : Bool) → ((a || b) || c) ≡ (a || (b || c))
 or-assoc true b c = refl
 or-assoc false b c = refl
 
@@ -133,12 +133,6 @@ leaves-none a s closes j = sym (ap (or_else (leaving_on j a.connections)) (close
 pub Does-stays : (a : CoreView) → Does a a no_step
 Does-stays a = λ told. FollowsUnlessStarved-exact told a a (no_step (state_of a told)) (KeepsClients-refl a) (λ distinct. leaves-none a (no_step (state_of a told)) (λ j. refl)) (λ distinct were. Follows-stays told a were)
 
-pub FollowsUnlessStarved-starved : (told : Beside) (a b : CoreView) (s : Stepped) → RanOutOfMemory a b → FollowsUnlessStarved told a b s
-FollowsUnlessStarved-starved told a b s f = record { keeps = f.keeps; causes = λ distinct j. inr (f.causes distinct j); does = λ same below distinct were agrees. (let more = f.counted below in absurd (omega arith)) }
-
-pub Does-starved : (a b : CoreView) (step : State → Stepped) → RanOutOfMemory a b → Does a b step
-Does-starved a b step f = λ told. FollowsUnlessStarved-starved told a b (step (state_of a told)) f
-
 -- a client that is leaving stays so for the same cause
 leaving-stays : (a b : CoreView) (j : ℕ) (why : Cause) → KeepsClients a b → leaving_on j a.connections ≡ Some why → leaving_on j b.connections ≡ Some why
 leaving-stays a b j why keeps e =
@@ -154,7 +148,7 @@ pub record ClosesLater (b : CoreView) (first : Stepped) (next : State → Steppe
   pub first_none : (j : ℕ) → close_of j first.acts ≡ None
   pub same : (j : ℕ) → close_of j (next (state_of b (beside first.state))).acts ≡ close_of j (next first.state).acts
 
-causes-then : (a b c : CoreView) (first : Stepped) (next : State → Stepped) (j : ℕ) → ClosesLater b first next → KeepsClients b c
+pub causes-then : (a b c : CoreView) (first : Stepped) (next : State → Stepped) (j : ℕ) → ClosesLater b first next → KeepsClients b c
     → LeavesBy (leaving_on j a.connections) (close_of j first.acts) (leaving_on j b.connections) → LeavesBy (leaving_on j b.connections) (close_of j (next (state_of b (beside first.state))).acts) (leaving_on j c.connections)
     → LeavesBy (leaving_on j a.connections) (close_of j (then_does first next).acts) (leaving_on j c.connections)
 causes-then a b c first next j closes keeps f g = by (stays_by f) g where
@@ -196,10 +190,10 @@ FollowsUnlessStarved-then told a b c first next closes f done = record {
 -- ---- what stays
 
 pub ChangesBuffers-trans : (a b c : CoreView) → ChangesBuffers a b → ChangesBuffers b c → ChangesBuffers a c
-ChangesBuffers-trans a b c f g = let F : CoreView → CoreView = λ core. record core { world = c.world; pending = c.pending; connections = c.connections; starved = c.starved } in g ∙ ap F f
+ChangesBuffers-trans a b c f g = let F : CoreView → CoreView = λ core. record core { world = c.world; pending = c.pending; connections = c.connections; starved = c.starved; cuts = c.cuts } in g ∙ ap F f
 
 pub ChangesServers-trans : (a b c : CoreView) → ChangesServers a b → ChangesServers b c → ChangesServers a c
-ChangesServers-trans a b c f g = let F : CoreView → CoreView = λ core. record core { world = c.world; pending = c.pending; connections = c.connections; servers = c.servers; starved = c.starved } in g ∙ ap F f
+ChangesServers-trans a b c f g = let F : CoreView → CoreView = λ core. record core { world = c.world; pending = c.pending; connections = c.connections; servers = c.servers; starved = c.starved; cuts = c.cuts } in g ∙ ap F f
 
 pub changes-servers : (a b : CoreView) → ChangesBuffers a b → ChangesServers a b
 changes-servers a b e =

@@ -1,6 +1,6 @@
 -- A text is evaluated, and then something is done with its value.
 use Rattle.std.proofs.Common.{◌≡◌, codes, Result, Ok, Err, IfOk, ℕ, ◌+◌, ◌-◌, ◌^◌, min, ◌<◌, ◌≤◌, Bool, true, false, cond, List, inl, inr, Option, None, IsUtf8, refl, ap, sym, subst, ◌∙◌, arith, zero, suc, [], ◌∷◌, Some, option_map, All, length, length-append, IfSome, decimal, nat_lt}
-use Rattle.std.specs.Prelude.{map, unwrap_or, position}
+use Rattle.std.specs.Prelude.{unwrap_or, position}
 use Rattle.std.specs.Str.{is_utf8}
 use Rattle.std.proofs.lemmas.Str.{is_utf8-from_IsUtf8, IsUtf8-nil, IsUtf8-from_ascii}
 use Rattle.wc_text.specs.declared.names.Cause.{Cause}
@@ -10,18 +10,17 @@ use Rattle.wc_board.specs.Connections.{connection_link, leaving_on}
 use Rattle.wc_board.specs.Served.{StaysOrStarves}
 use Rattle.wc_core.specs.CoreView.{CoreView}
 use Rattle.wc_core.specs.BoardSteps.{board_of}
-use Rattle.wc_core.proofs.BoardStepLemmas.{steps-same}
+use Rattle.wc_core.proofs.BoardStepLemmas.{steps-same, by-both, by-same}
 use Rattle.wc_core.specs.Evaluated.{value_at, holds_at, answer_text, printed_value, buffer_or_core, number_text, facts_by, facts_of_buffer, locals_of_buffer, facts_at}
 use Rattle.wc_core.specs.Inputs.{Judges, Values}
 use Rattle.wc_core.specs.State.{State, Beside, Stepped}
-use Rattle.wc_core.specs.Step.{no_step, ask_step, run_value, input_at, eval_step, evaluation_at, evaluated_by, plain_step}
-use Rattle.wc_core.specs.Served.{state_of, WereTold, close_of, LeavesBy, Distinct, Follows, KeepsClients, FollowsUnlessStarved, Does, RanOutOfMemory, links_of}
+use Rattle.wc_core.specs.Step.{no_step, ask_step, run_value, input_at, evaluation_at, evaluated_by, plain_step}
+use Rattle.wc_core.specs.Served.{WereTold, close_of, Distinct, Follows, KeepsClients, links_of, clients_of}
 use Rattle.wc_core.proofs.ChainLemmas.{stays-by}
 use Rattle.wc_core.proofs.ChangeCloses.{asks-closes, closes_none-if}
 use Rattle.wc_core.proofs.CloseLemmas.{input_at-closes}
-use Rattle.wc_core.proofs.ComeLemmas.{ServersKeep-refl}
 use Rattle.wc_core.proofs.CoreLemmas.{starves-only}
-use Rattle.wc_core.proofs.DidLemmas.{KeepsClients-trans, Does-starved, servers-same, Does-stays}
+use Rattle.wc_core.proofs.DidLemmas.{KeepsClients-trans, servers-same}
 use Rattle.wc_core.proofs.OracleLemmas.{Agrees-before}
 use Rattle.wc_core.specs.Typed.{typed_line, evaluation_of}
 use Rattle.wc_core.specs.EvaluatedSeen.{facts_around, IsAround}
@@ -42,6 +41,9 @@ use Rattle.wc_buffers.specs.Groups.{AllFilled, rows, place, in_group}
 use Rattle.std.proofs.lemmas.Fmt.{IsAscii-decimal}
 use Rattle.std.specs.List.{position_or_len}
 use Rattle.std.proofs.lemmas.Bool.Decides.{nat_tests}
+use Rattle.wc_core.specs.Contained.{Rest, state_with, RunsAt, Runs, Counts, Holds, IsContained, beside_in, starving_number}
+use Rattle.wc_core.proofs.RunLemmas.{Runs-starved, Runs-stays}
+use Rattle.wc_core.proofs.CountLemmas.{Counts-trans, counts-none}
 
 -- where verdicts alone are others, all clients stay
 pub keeps-judged : (a b : CoreView) → Judges a b → KeepsClients a b
@@ -70,42 +72,70 @@ follows-judged told a b c stepped only f =
     let g : Follows told (record a { verdicts = b.verdicts }) c stepped = subst P only f in
     record { means = g.means; oracle = g.oracle; bytes = g.bytes; leaving = g.leaving; quits = g.quits; servers = g.servers; parts = g.parts }
 
+contained-judged : (told : Rest) (a b c : CoreView) (stepped : Stepped) → b ≡ record a { verdicts = b.verdicts } → IsContained told b c stepped → IsContained told a c stepped
+contained-judged told a b c stepped only f =
+    let P : CoreView → Type 0 = λ core. IsContained told core c stepped in
+    let g : IsContained told (record a { verdicts = b.verdicts }) c stepped = subst P only f in
+    record { whole = λ same. (let d = g.whole same in record { holds = d.holds; is_on = d.is_on; oracle = d.oracle; quits = d.quits; servers = d.servers }); part = g.part }
+
+counts-judged : (a b c : CoreView) → b ≡ record a { verdicts = b.verdicts } → Counts 0 b c → Counts 0 a c
+counts-judged a b c only f = Counts-trans a b c (counts-none a b (ap (λ (core : CoreView). starving_number core.connections) only) (ap (λ (core : CoreView). core.starved) only) (ap (λ (core : CoreView). core.cuts) only)) f
+
 -- a text is judged, and what is done with the value is done with what the text comes to in the state before
-pub Does-judged : {X : Type 0} (a b c : CoreView) (value : X) (of : State → X) (step : State → X → Stepped) → ((j : ℕ) (state : State) (x : X) → close_of j (step state x).acts ≡ None) → Judges a b → Values a b value of → Does b c (λ state. step state value)
-    → Does a c (λ state. step state (of state))
-Does-judged {X} a b c value of step none judges values done = λ told.
+pub Runs-judged : {X : Type 0} (a b c : CoreView) (value : X) (of : State → X) (step : State → X → Stepped) → ((j : ℕ) (state : State) (x : X) → close_of j (step state x).acts ≡ None) → Judges a b → Values a b value of → Runs b c (λ state. step state value)
+    → Runs a c (λ state. step state (of state))
+Runs-judged {X} a b c value of step none judges values done = λ told.
     let g = done told in
-    let before = state_of a told in
-    let P : CoreView → Type 0 = λ core. WereTold core told in
-    let R : CoreView → Type 0 = λ core. Follows told b c (step (state_of core told) value) in
-    let S : X → Type 0 = λ x. Follows told b c (step before x) in
+    let before = state_with a told in
+    let links = sym (keeps-judged a b judges).links in
+    let P : CoreView → Type 0 = λ core. WereTold core (beside_in told) in
+    let R : CoreView → Type 0 = λ core. Follows (beside_in told) b c (step (state_with core told) value) in
+    let S : X → Type 0 = λ x. Follows (beside_in told) b c (step before x) in
+    let T : CoreView → Type 0 = λ core. IsContained told b c (step (state_with core told) value) in
+    let U : X → Type 0 = λ x. IsContained told b c (step before x) in
+    let clients = ap (λ (core : CoreView). clients_of core.connections) judges.only in
     record {
       keeps = KeepsClients-trans a b c (keeps-judged a b judges) g.keeps;
-      causes = λ distinct j.
+      board = by-both (board_of a) (board_of b) (board_of c) (by-same (board_of a) (board_of b) (ap board_of judges.only)) g.board;
+      counts = counts-judged a b c judges.only g.counts;
+      causes = λ here distinct j.
           let later : StaysOrStarves (leaving_on j b.connections) (leaving_on j c.connections) =
-          stays-by b c j (close_of j (step (state_of b told) value).acts) (none j (state_of b told) value) (g.causes (subst Distinct (sym (keeps-judged a b judges).links) distinct) j) in
-          let T : Option Cause → Type 0 = λ o. StaysOrStarves o (leaving_on j c.connections) in
-          inr (subst T (ap (λ (core : CoreView). leaving_on j core.connections) judges.only) later);
-      does = λ same below distinct were agrees.
+          stays-by b c j (close_of j (step (state_with b told) value).acts) (none j (state_with b told) value) (g.causes (here ∙ sym clients) (subst Distinct links distinct) j) in
+          let V : Option Cause → Type 0 = λ o. StaysOrStarves o (leaving_on j c.connections) in
+          inr (subst V (ap (λ (core : CoreView). leaving_on j core.connections) judges.only) later);
+      does = λ here same below distinct were agrees.
           let e = ap (λ (core : CoreView). core.starved) judges.only in
           let half : c.starved ≡ b.starved = omega (arith, same, e) in
           let under : b.starved < 2 ^ 64 - 1 = omega (arith, below, e) in
           let agreed = Agrees-before told.oracle b.verdicts c.verdicts g.keeps.verdicts agrees in
-          let did = g.does half under (subst Distinct (sym (keeps-judged a b judges).links) distinct) (subst P (sym judges.only) were) agrees in
-          follows-judged told a b c (step before (of before)) judges.only (subst S (values told agreed) (subst R judges.only did));
+          let did = g.does (here ∙ sym clients) half under (subst Distinct links distinct) (subst P (sym judges.only) were) agrees in
+          follows-judged (beside_in told) a b c (step before (of before)) judges.only (subst S (values told agreed) (subst R judges.only did));
+      contains = λ below distinct were agrees.
+          let e = ap (λ (core : CoreView). core.cuts) judges.only in
+          let agreed = Agrees-before told.oracle b.verdicts c.verdicts g.keeps.verdicts agrees in
+          let is = g.contains (omega (arith, below, e)) (subst Distinct links distinct) (subst P (sym judges.only) were) agrees in
+          contained-judged told a b c (step before (of before)) judges.only (subst U (values told agreed) (subst T judges.only is));
     }
 
 -- want of memory after texts were judged
-pub judged-starves : (a b c : CoreView) (step : State → Stepped) → Judges a b → c ≡ record b { starved = min (b.starved + 1) (2 ^ 64 - 1) } → b.starved ≤ c.starved → Does a c step
+pub judged-starves : (a b c : CoreView) (step : State → Stepped) → Judges a b → c ≡ record b { starved = min (b.starved + 1) (2 ^ 64 - 1); cuts = min (b.cuts + 1) (2 ^ 64 - 1) } → b.starved ≤ c.starved → Runs a c step
 judged-starves a b c step judges counts rises =
     let starves = starves-only b c counts rises in
     let e = ap (λ (core : CoreView). core.starved) judges.only in
-    Does-starved a c step (record {
+    let cuts = ap (λ (core : CoreView). core.cuts) judges.only in
+    Runs-starved a c step (record {
       keeps = KeepsClients-trans a b c (keeps-judged a b judges) starves.keeps;
+      board = by-both (board_of a) (board_of b) (board_of c) (by-same (board_of a) (board_of b) (ap board_of judges.only)) starves.board;
+      counts = counts-judged a b c judges.only starves.counts;
       causes = λ distinct j.
           let T : Option Cause → Type 0 = λ o. StaysOrStarves o (leaving_on j c.connections) in
           subst T (ap (λ (core : CoreView). leaving_on j core.connections) judges.only) (starves.causes (subst Distinct (sym (keeps-judged a b judges).links) distinct) j);
       counted = λ below. (let more = starves.counted (omega (arith, below, e)) in omega (arith, more, e));
+      cut = λ below. (let more = starves.cut (omega (arith, below, cuts)) in omega (arith, more, cuts));
+      holds = λ told were.
+          let P : CoreView → Type 0 = λ core. WereTold core (beside_in told) in
+          let Q : CoreView → Type 0 = λ core. Holds c (state_with core told) in
+          subst Q judges.only (starves.holds told (subst P (sym judges.only) were));
     })
 
 -- ---- the three forms
@@ -113,58 +143,58 @@ judged-starves a b c step judges counts rises =
 value-closes : (n : ℕ) (buffer : Handle) (j : ℕ) (state : State) (value : List ℕ) → close_of j (run_value (input_at n) state buffer value).acts ≡ None
 value-closes n buffer j state value = closes_none-if j (is_utf8 value) (input_at n state buffer value) (no_step state) (input_at-closes n j state buffer value) refl
 
-pub runs-value : (a b c : CoreView) (n : ℕ) (buffer : Handle) (text value : List ℕ) → Judges a b → Values a b value (λ state. value_at state buffer text) → IsUtf8 value → Does b c (λ state. input_at n state buffer value)
-    → Does a c (λ state. run_value (input_at n) state buffer (value_at state buffer text))
+pub runs-value : (a b c : CoreView) (n : ℕ) (buffer : Handle) (text value : List ℕ) → Judges a b → Values a b value (λ state. value_at state buffer text) → IsUtf8 value → Runs b c (λ state. input_at n state buffer value)
+    → Runs a c (λ state. run_value (input_at n) state buffer (value_at state buffer text))
 runs-value a b c n buffer text value judges values utf8 done =
-    Does-judged a b c value (λ state. value_at state buffer text) (λ state value. run_value (input_at n) state buffer value) (value-closes n buffer) judges values (λ told.
-    let before = state_of b told in
-    let P : Bool → Type 0 = λ t. FollowsUnlessStarved told b c (cond t (input_at n before buffer value) (no_step before)) in
+    Runs-judged a b c value (λ state. value_at state buffer text) (λ state value. run_value (input_at n) state buffer value) (value-closes n buffer) judges values (λ told.
+    let before = state_with b told in
+    let P : Bool → Type 0 = λ t. RunsAt told b c (cond t (input_at n before buffer value) (no_step before)) in
     subst P (sym (is_utf8-from_IsUtf8 value utf8)) (done told))
 
-pub prints-value : (a b c : CoreView) (buffer : Handle) (text value : List ℕ) → Judges a b → Values a b value (λ state. value_at state buffer text) → Does b c (λ state. ask_step state (printed_value state.moment value))
-    → Does a c (λ state. ask_step state (printed_value state.moment (value_at state buffer text)))
+pub prints-value : (a b c : CoreView) (buffer : Handle) (text value : List ℕ) → Judges a b → Values a b value (λ state. value_at state buffer text) → Runs b c (λ state. ask_step state (printed_value state.moment value))
+    → Runs a c (λ state. ask_step state (printed_value state.moment (value_at state buffer text)))
 prints-value a b c buffer text value judges values done =
-    Does-judged a b c value (λ state. value_at state buffer text) (λ state value. ask_step state (printed_value state.moment value)) (λ j state value. asks-closes j state (printed_value state.moment value)) judges values done
+    Runs-judged a b c value (λ state. value_at state buffer text) (λ state value. ask_step state (printed_value state.moment value)) (λ j state value. asks-closes j state (printed_value state.moment value)) judges values done
 
-pub prints-answer : (a b c : CoreView) (buffer : Handle) (text : List ℕ) (holds : Bool) → Judges a b → Values a b holds (λ state. holds_at state buffer text) → Does b c (λ state. ask_step state (printed_value state.moment (answer_text holds)))
-    → Does a c (λ state. ask_step state (printed_value state.moment (answer_text (holds_at state buffer text))))
+pub prints-answer : (a b c : CoreView) (buffer : Handle) (text : List ℕ) (holds : Bool) → Judges a b → Values a b holds (λ state. holds_at state buffer text) → Runs b c (λ state. ask_step state (printed_value state.moment (answer_text holds)))
+    → Runs a c (λ state. ask_step state (printed_value state.moment (answer_text (holds_at state buffer text))))
 prints-answer a b c buffer text holds judges values done =
-    Does-judged a b c holds (λ state. holds_at state buffer text) (λ state holds. ask_step state (printed_value state.moment (answer_text holds))) (λ j state holds. asks-closes j state (printed_value state.moment (answer_text holds))) judges values done
+    Runs-judged a b c holds (λ state. holds_at state buffer text) (λ state holds. ask_step state (printed_value state.moment (answer_text holds))) (λ j state holds. asks-closes j state (printed_value state.moment (answer_text holds))) judges values done
 
 -- ---- the forms by their number of levels
 
 -- a line that evaluates a text
-pub evaluates : (a b : CoreView) (levels : ℕ) (buffer : Handle) (line : List ℕ) (usage : EvalUse) (text : List ℕ) → Some (usage, text) ≡ evaluation_of (typed_line line) → Does a b (λ state. evaluation_at levels state buffer usage text)
-    → Does a b (λ state. input_at levels state buffer line)
+pub evaluates : (a b : CoreView) (levels : ℕ) (buffer : Handle) (line : List ℕ) (usage : EvalUse) (text : List ℕ) → Some (usage, text) ≡ evaluation_of (typed_line line) → Runs a b (λ state. evaluation_at levels state buffer usage text)
+    → Runs a b (λ state. input_at levels state buffer line)
 evaluates a b levels buffer line usage text e done = λ told.
-    let P : Option (EvalUse × List ℕ) → Type 0 = λ o. FollowsUnlessStarved told a b (evaluated_by (evaluation_at levels) (state_of a told) buffer line o) in
+    let P : Option (EvalUse × List ℕ) → Type 0 = λ o. RunsAt told a b (evaluated_by (evaluation_at levels) (state_with a told) buffer line o) in
     subst P e (done told)
 
 -- a line that evaluates none
-pub evaluates-not : (a b : CoreView) (levels : ℕ) (buffer : Handle) (line : List ℕ) → None ≡ evaluation_of (typed_line line) → Does a b (λ state. plain_step state buffer line) → Does a b (λ state. input_at levels state buffer line)
+pub evaluates-not : (a b : CoreView) (levels : ℕ) (buffer : Handle) (line : List ℕ) → None ≡ evaluation_of (typed_line line) → Runs a b (λ state. plain_step state buffer line) → Runs a b (λ state. input_at levels state buffer line)
 evaluates-not a b levels buffer line e done = λ told.
-    let P : Option (EvalUse × List ℕ) → Type 0 = λ o. FollowsUnlessStarved told a b (evaluated_by (evaluation_at levels) (state_of a told) buffer line o) in
+    let P : Option (EvalUse × List ℕ) → Type 0 = λ o. RunsAt told a b (evaluated_by (evaluation_at levels) (state_with a told) buffer line o) in
     subst P e (done told)
 
 -- inside as many others as may be
-pub evaluates-none : (a : CoreView) (levels : ℕ) (buffer : Handle) (usage : EvalUse) (text : List ℕ) → levels ≡ 0 → Does a a (λ state. evaluation_at levels state buffer usage text)
+pub evaluates-none : (a : CoreView) (levels : ℕ) (buffer : Handle) (usage : EvalUse) (text : List ℕ) → levels ≡ 0 → Runs a a (λ state. evaluation_at levels state buffer usage text)
 unfolding evaluation_at
-evaluates-none a zero buffer usage text e = Does-stays a
+evaluates-none a zero buffer usage text e = Runs-stays a
 evaluates-none a (suc levels) buffer usage text e = absurd (omega (arith, e))
 
-pub evaluates-run : (a b : CoreView) (levels : ℕ) (buffer : Handle) (text : List ℕ) → 0 < levels → Does a b (λ state. run_value (input_at (levels - 1)) state buffer (value_at state buffer text)) → Does a b (λ state. evaluation_at levels state buffer eval.Run text)
+pub evaluates-run : (a b : CoreView) (levels : ℕ) (buffer : Handle) (text : List ℕ) → 0 < levels → Runs a b (λ state. run_value (input_at (levels - 1)) state buffer (value_at state buffer text)) → Runs a b (λ state. evaluation_at levels state buffer eval.Run text)
 unfolding evaluation_at
 evaluates-run a b zero buffer text some done = absurd (omega (arith, some))
 evaluates-run a b (suc levels) buffer text some done =
-    let P : ℕ → Type 0 = λ n. Does a b (λ state. run_value (input_at n) state buffer (value_at state buffer text)) in
+    let P : ℕ → Type 0 = λ n. Runs a b (λ state. run_value (input_at n) state buffer (value_at state buffer text)) in
     subst P (omega arith) done
 
-pub evaluates-print : (a b : CoreView) (levels : ℕ) (buffer : Handle) (text : List ℕ) → 0 < levels → Does a b (λ state. ask_step state (printed_value state.moment (value_at state buffer text))) → Does a b (λ state. evaluation_at levels state buffer eval.Print text)
+pub evaluates-print : (a b : CoreView) (levels : ℕ) (buffer : Handle) (text : List ℕ) → 0 < levels → Runs a b (λ state. ask_step state (printed_value state.moment (value_at state buffer text))) → Runs a b (λ state. evaluation_at levels state buffer eval.Print text)
 unfolding evaluation_at
 evaluates-print a b zero buffer text some done = absurd (omega (arith, some))
 evaluates-print a b (suc levels) buffer text some done = done
 
-pub evaluates-test : (a b : CoreView) (levels : ℕ) (buffer : Handle) (text : List ℕ) → 0 < levels → Does a b (λ state. ask_step state (printed_value state.moment (answer_text (holds_at state buffer text)))) → Does a b (λ state. evaluation_at levels state buffer eval.Test text)
+pub evaluates-test : (a b : CoreView) (levels : ℕ) (buffer : Handle) (text : List ℕ) → 0 < levels → Runs a b (λ state. ask_step state (printed_value state.moment (answer_text (holds_at state buffer text)))) → Runs a b (λ state. evaluation_at levels state buffer eval.Test text)
 unfolding evaluation_at
 evaluates-test a b zero buffer text some done = absurd (omega (arith, some))
 evaluates-test a b (suc levels) buffer text some done = done
@@ -220,7 +250,7 @@ abbrev facts_by_parts : OptionsValue → List Pair → List Pair → List Pair �
 facts_by_parts options vars facts locals groups = record { vars = vars; options = options; facts = facts; locals = locals; groups = groups }
 
 -- what is around is what a text may name in each state that the core means
-facts-are : (a : CoreView) (buffer : Handle) (around : Surroundings) → IsAround a.world.groups buffer around → (told : Beside) → facts_around a.options around ≡ facts_at (state_of a told) buffer
+facts-are : (a : CoreView) (buffer : Handle) (around : Surroundings) → IsAround a.world.groups buffer around → (told : Rest) → facts_around a.options around ≡ facts_at (state_with a told) buffer
 facts-are a buffer around is told =
     let on = buffer_or_core a.world.groups buffer in
     ap (λ vars. facts_by_parts a.options vars around.facts around.locals around.groups) is.vars ∙ ap (λ facts. facts_by_parts a.options [] facts around.locals around.groups) is.facts

@@ -2,6 +2,7 @@ pub mod TypedWords
 pub mod TypedLemmas
 pub mod ResolvedWords
 pub mod ResolvedTexts
+pub mod RunLemmas
 pub mod ComeLemmas
 pub mod OracleLemmas
 pub mod BoardStepLemmas
@@ -19,6 +20,7 @@ pub mod LinkLemmas
 pub mod ServerLemmas
 pub mod ServedLemmas
 pub mod CoreLemmas
+pub mod CountLemmas
 pub mod ActLemmas
 pub mod AnswerLemmas
 pub mod StartLemmas

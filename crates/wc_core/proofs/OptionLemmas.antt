@@ -1,5 +1,5 @@
 -- What becomes of an option, and what is told where it does not get a value.
-use Rattle.std.proofs.Common.{◌≡◌, ◌≢◌, ℕ, zero, suc, Bool, true, false, cond, not, List, [], ◌∷◌, codes, length, nat_le, ◌&&◌, Option, Some, None, refl, ap, sym, subst, inl, inr, arith, append-nil, get_or}
+use Rattle.std.proofs.Common.{◌≡◌, ◌≢◌, ℕ, zero, suc, Bool, true, false, cond, not, List, [], ◌∷◌, codes, length, nat_le, ◌&&◌, Option, Some, None, refl, sym, subst, inl, inr, arith, append-nil, get_or}
 use Rattle.std.specs.Str.{IsUtf8}
 use Rattle.std.proofs.lemmas.Str.{IsUtf8-nil, IsUtf8-append}
 use Rattle.wc_options.specs.Config.{config_text}
@@ -12,77 +12,96 @@ use Rattle.wc_options.specs.declared.refusal.SetRefused.TheVariants as option
 use Rattle.wc_core.specs.CoreView.{CoreView}
 use Rattle.wc_core.specs.Resolved.{option_text}
 use Rattle.wc_core.specs.State.{State, Stepped}
-use Rattle.wc_core.specs.Step.{no_step, refusal_step, set_step, set_step_if, unset_step, unset_step_if, save_step}
-use Rattle.wc_core.specs.Served.{state_of, FollowsUnlessStarved, Does}
+use Rattle.wc_core.specs.Step.{refusal_step, set_step, set_step_if, unset_step, unset_step_if, save_step}
 use Rattle.wc_board.specs.Connections.{unsent_on}
-use Rattle.wc_core.specs.State.{Beside}
 use Rattle.wc_servers.proofs.OutLemmas.{ServersFollow-refl}
 use Rattle.wc_core.proofs.ComeLemmas.{ServersKeep-refl, LeaveInOrder-refl}
-use Rattle.wc_core.proofs.DidLemmas.{or-false, leaves-none, KeepsClients-connections, FollowsUnlessStarved-exact}
+use Rattle.wc_core.proofs.DidLemmas.{or-false, leaves-none, KeepsClients-connections}
 use Rattle.wc_core.proofs.TypedLemmas.{ascii_text}
+use Rattle.wc_core.specs.Contained.{Rest, state_with, RunsAt, Runs}
+use Rattle.wc_core.specs.Served.{clients_of}
+use Rattle.wc_session.specs.declared.client.Client.{Client}
+use Rattle.wc_core.specs.Changing.{put_step}
+use Rattle.wc_core.proofs.RunLemmas.{RunsAt-exact}
+use Rattle.wc_core.proofs.CountLemmas.{counts-none}
+use Rattle.wc_core.proofs.BoardStepLemmas.{by-same}
+use Rattle.wc_core.specs.BoardSteps.{board_of}
 
 -- ---- the options after a command
 
-pub options-are : (told : Beside) (old : CoreView) (options : OptionsValue) → FollowsUnlessStarved told old (record old { options = options }) (no_step (record (state_of old told) { options = options }))
+pub options-are : (told : Rest) (old : CoreView) (options : OptionsValue) → RunsAt told old (record old { options = options }) (put_step (record (state_with old told) { options = options }))
 options-are told old options =
-    let step = no_step (record (state_of old told) { options = options }) in
-    FollowsUnlessStarved-exact told old (record old { options = options }) step (KeepsClients-connections old (record old { options = options }) refl (omega arith) (inl (refl, refl)) (ServersKeep-refl old.servers) refl) (λ distinct. leaves-none old step (λ j. refl))
-    (λ distinct were. record { means = record { same = refl; told = were }; oracle = refl; bytes = λ j. sym (append-nil (unsent_on j old.connections)); leaving = leaves-none old step (λ j. refl); quits = sym (or-false old.quits); servers = ServersFollow-refl old.servers; parts = LeaveInOrder-refl old.servers })
+    let new : CoreView = record old { options = options } in
+    let of : List Client → Stepped = λ clients. put_step (record (state_with old told) { options = options; clients = clients }) in
+    RunsAt-exact told old new of (KeepsClients-connections old new refl (omega arith) (inl (refl, refl)) (ServersKeep-refl old.servers) refl) (by-same (board_of old) (board_of old) refl) (counts-none old new refl refl refl)
+    (λ distinct. leaves-none old (of (clients_of old.connections)) (λ j. refl))
+    (λ distinct were. record { means = record { same = refl; told = were }; oracle = refl; bytes = λ j. sym (append-nil (unsent_on j old.connections)); leaving = leaves-none old (of (clients_of old.connections)) (λ j. refl); quits = sym (or-false old.quits); servers = ServersFollow-refl old.servers; parts = LeaveInOrder-refl old.servers })
+    (λ distinct were. record { holds = record { same = refl; told = were }; is_on = inr refl; oracle = refl; quits = sym (or-false old.quits); servers = ServersFollow-refl old.servers })
 
 -- the text of the options is kept as the one that was saved last
-pub save-done : (old : CoreView) (text : List ℕ) → text ≡ config_text old.options → Does old (record old { saved = Some text; unwritten = true }) save_step
+pub save-done : (old : CoreView) (text : List ℕ) → text ≡ config_text old.options → Runs old (record old { saved = Some text; unwritten = true }) save_step
 save-done old text e = λ told.
-    let new : CoreView = record old { saved = Some text; unwritten = true } in
-    let step = save_step (state_of old told) in
-    let of : List ℕ → State = λ text. record (state_of old told) { saved = Some text } in
-    FollowsUnlessStarved-exact told old new step (KeepsClients-connections old new refl (omega arith) (inr (refl, refl)) (ServersKeep-refl old.servers) refl) (λ distinct. leaves-none old step (λ j. refl))
-    (λ distinct were. record { means = record { same = ap of (sym e); told = were }; oracle = refl; bytes = λ j. sym (append-nil (unsent_on j old.connections)); leaving = leaves-none old step (λ j. refl); quits = sym (or-false old.quits); servers = ServersFollow-refl old.servers; parts = LeaveInOrder-refl old.servers })
+    let P : List ℕ → Type 0 = λ t. RunsAt told old (record old { saved = Some text; unwritten = true }) (put_step (record (state_with old told) { saved = Some t })) in
+    subst P e (saved told)
+  where
+    new : CoreView
+    new = record old { saved = Some text; unwritten = true }
 
-pub set-done : (old : CoreView) (options : OptionsValue) (name value : List ℕ) → refusal_of old.options name value ≡ None → options ≡ with_value old.options name value → Does old (record old { options = options }) (λ state. set_step state name value)
+    of : Rest → List Client → Stepped
+    of told clients = put_step (record (state_with old told) { saved = Some text; clients = clients })
+
+    saved : (told : Rest) → RunsAt told old new (put_step (record (state_with old told) { saved = Some text }))
+    saved told =
+        RunsAt-exact told old new (of told) (KeepsClients-connections old new refl (omega arith) (inr (refl, refl)) (ServersKeep-refl old.servers) refl) (by-same (board_of old) (board_of old) refl) (counts-none old new refl refl refl)
+        (λ distinct. leaves-none old (of told (clients_of old.connections)) (λ j. refl))
+        (λ distinct were. record { means = record { same = refl; told = were }; oracle = refl; bytes = λ j. sym (append-nil (unsent_on j old.connections)); leaving = leaves-none old (of told (clients_of old.connections)) (λ j. refl); quits = sym (or-false old.quits); servers = ServersFollow-refl old.servers; parts = LeaveInOrder-refl old.servers })
+        (λ distinct were. record { holds = record { same = refl; told = were }; is_on = inr refl; oracle = refl; quits = sym (or-false old.quits); servers = ServersFollow-refl old.servers })
+
+pub set-done : (old : CoreView) (options : OptionsValue) (name value : List ℕ) → refusal_of old.options name value ≡ None → options ≡ with_value old.options name value → Runs old (record old { options = options }) (λ state. set_step state name value)
 set-done old options name value accepted e = λ told.
-    let P : OptionsValue → Type 0 = λ o. FollowsUnlessStarved told old (record old { options = options }) (no_step (record (state_of old told) { options = o })) in
-    let Q : Option SetRefused → Type 0 = λ o. FollowsUnlessStarved told old (record old { options = options }) (set_step_if (state_of old told) name value o) in
+    let P : OptionsValue → Type 0 = λ o. RunsAt told old (record old { options = options }) (put_step (record (state_with old told) { options = o })) in
+    let Q : Option SetRefused → Type 0 = λ o. RunsAt told old (record old { options = options }) (set_step_if (state_with old told) name value o) in
     subst Q (sym accepted) (subst P e (options-are told old options))
 
-set-told : (old new : CoreView) (name value : List ℕ) (reason : SetRefused) → refusal_of old.options name value ≡ Some reason → Does old new (λ state. refusal_step state (option_text name reason)) → Does old new (λ state. set_step state name value)
+set-told : (old new : CoreView) (name value : List ℕ) (reason : SetRefused) → refusal_of old.options name value ≡ Some reason → Runs old new (λ state. refusal_step state (option_text name reason)) → Runs old new (λ state. set_step state name value)
 set-told old new name value reason refused done = λ told.
-    let Q : Option SetRefused → Type 0 = λ o. FollowsUnlessStarved told old new (set_step_if (state_of old told) name value o) in
+    let Q : Option SetRefused → Type 0 = λ o. RunsAt told old new (set_step_if (state_with old told) name value o) in
     subst Q (sym refused) (done told)
 
 -- where the options stayed as they were
 set-refused-by : (old new : CoreView) (name value : List ℕ) (reason : SetRefused) → (reason ≢ option.NoMemory → refusal_of old.options name value ≡ Some reason)
-    → (reason ≢ option.NoMemory → Does old new (λ state. refusal_step state (option_text name reason))) → (reason ≡ option.NoMemory → (step : State → Stepped) → Does old new step)
-    → Does old new (λ state. set_step state name value)
+    → (reason ≢ option.NoMemory → Runs old new (λ state. refusal_step state (option_text name reason))) → (reason ≡ option.NoMemory → (step : State → Stepped) → Runs old new step)
+    → Runs old new (λ state. set_step state name value)
 set-refused-by old new name value option.NoMemory refuses told starves = starves refl (λ state. set_step state name value)
 set-refused-by old new name value option.UnknownOption refuses told starves = set-told old new name value option.UnknownOption (refuses (λ e. cc)) (told (λ e. cc))
 set-refused-by old new name value (option.BadValue range) refuses told starves = set-told old new name value (option.BadValue range) (refuses (λ e. cc)) (told (λ e. cc))
 set-refused-by old new name value (option.TooManyServers limit) refuses told starves = set-told old new name value (option.TooManyServers limit) (refuses (λ e. cc)) (told (λ e. cc))
 
 pub set-refused : (old new : CoreView) (options : OptionsValue) (name value : List ℕ) (reason : SetRefused) → options ≡ old.options → (reason ≢ option.NoMemory → refusal_of old.options name value ≡ Some reason)
-    → (reason ≢ option.NoMemory → Does (record old { options = options }) new (λ state. refusal_step state (option_text name reason)))
-    → (reason ≡ option.NoMemory → (step : State → Stepped) → Does (record old { options = options }) new step)
-    → Does old new (λ state. set_step state name value)
+    → (reason ≢ option.NoMemory → Runs (record old { options = options }) new (λ state. refusal_step state (option_text name reason)))
+    → (reason ≡ option.NoMemory → (step : State → Stepped) → Runs (record old { options = options }) new step)
+    → Runs old new (λ state. set_step state name value)
 set-refused old new options name value reason e refuses told starves =
-    let P : OptionsValue → Type 0 = λ o. reason ≢ option.NoMemory → Does (record old { options = o }) new (λ state. refusal_step state (option_text name reason)) in
-    let Q : OptionsValue → Type 0 = λ o. reason ≡ option.NoMemory → (step : State → Stepped) → Does (record old { options = o }) new step in
+    let P : OptionsValue → Type 0 = λ o. reason ≢ option.NoMemory → Runs (record old { options = o }) new (λ state. refusal_step state (option_text name reason)) in
+    let Q : OptionsValue → Type 0 = λ o. reason ≡ option.NoMemory → (step : State → Stepped) → Runs (record old { options = o }) new step in
     set-refused-by old new name value reason refuses (subst P e told) (subst Q e starves)
 
-pub unset-done : (old : CoreView) (options : OptionsValue) (name : List ℕ) → value_of old.options name ≢ None → options ≡ without_value old.options name → Does old (record old { options = options }) (λ state. unset_step state name)
+pub unset-done : (old : CoreView) (options : OptionsValue) (name : List ℕ) → value_of old.options name ≢ None → options ≡ without_value old.options name → Runs old (record old { options = options }) (λ state. unset_step state name)
 unset-done old options name known e = λ told. by told (value_of old.options name) refl where
-  P : Beside → OptionsValue → Type 0
-  P told o = FollowsUnlessStarved told old (record old { options = options }) (no_step (record (state_of old told) { options = o }))
+  P : Rest → OptionsValue → Type 0
+  P told o = RunsAt told old (record old { options = options }) (put_step (record (state_with old told) { options = o }))
 
-  Q : Beside → Option (List ℕ) → Type 0
-  Q told o = FollowsUnlessStarved told old (record old { options = options }) (unset_step_if (state_of old told) name o)
+  Q : Rest → Option (List ℕ) → Type 0
+  Q told o = RunsAt told old (record old { options = options }) (unset_step_if (state_with old told) name o)
 
-  by : (told : Beside) (o : Option (List ℕ)) → value_of old.options name ≡ o → FollowsUnlessStarved told old (record old { options = options }) (unset_step (state_of old told) name)
+  by : (told : Rest) (o : Option (List ℕ)) → value_of old.options name ≡ o → RunsAt told old (record old { options = options }) (unset_step (state_with old told) name)
   by told None at = absurd (known at)
   by told (Some value) at = subst (Q told) (sym at) (subst (P told) e (options-are told old options))
 
-unset-told : (old new : CoreView) (name : List ℕ) (reason : SetRefused) → reason ≡ option.UnknownOption → value_of old.options name ≡ None → Does old new (λ state. refusal_step state (option_text name reason)) → Does old new (λ state. unset_step state name)
+unset-told : (old new : CoreView) (name : List ℕ) (reason : SetRefused) → reason ≡ option.UnknownOption → value_of old.options name ≡ None → Runs old new (λ state. refusal_step state (option_text name reason)) → Runs old new (λ state. unset_step state name)
 unset-told old new name reason unknown none done = λ told.
-    let P : SetRefused → Type 0 = λ reason. FollowsUnlessStarved told old new (refusal_step (state_of old told) (option_text name reason)) in
-    let Q : Option (List ℕ) → Type 0 = λ o. FollowsUnlessStarved told old new (unset_step_if (state_of old told) name o) in
+    let P : SetRefused → Type 0 = λ reason. RunsAt told old new (refusal_step (state_with old told) (option_text name reason)) in
+    let Q : Option (List ℕ) → Type 0 = λ o. RunsAt told old new (unset_step_if (state_with old told) name o) in
     subst Q (sym none) (subst P unknown (done told))
 
 unknown-kept : (reason : SetRefused) → reason ≡ option.UnknownOption → reason ≢ option.NoMemory
@@ -92,10 +111,10 @@ unknown-kept (option.BadValue range) e = λ q. cc
 unknown-kept (option.TooManyServers limit) e = λ q. cc
 
 pub unset-refused : (old new : CoreView) (options : OptionsValue) (name : List ℕ) (reason : SetRefused) → options ≡ old.options → reason ≡ option.UnknownOption → value_of old.options name ≡ None
-    → (reason ≢ option.NoMemory → Does (record old { options = options }) new (λ state. refusal_step state (option_text name reason)))
-    → Does old new (λ state. unset_step state name)
+    → (reason ≢ option.NoMemory → Runs (record old { options = options }) new (λ state. refusal_step state (option_text name reason)))
+    → Runs old new (λ state. unset_step state name)
 unset-refused old new options name reason e unknown none told =
-    let P : OptionsValue → Type 0 = λ o. Does (record old { options = o }) new (λ state. refusal_step state (option_text name reason)) in
+    let P : OptionsValue → Type 0 = λ o. Runs (record old { options = o }) new (λ state. refusal_step state (option_text name reason)) in
     unset-told old new name reason unknown none (subst P e (told (unknown-kept reason unknown)))
 
 -- ---- why an option does not get a value

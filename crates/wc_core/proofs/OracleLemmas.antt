@@ -1,5 +1,5 @@
 -- Verdicts stay, and so an oracle that agrees with later ones agrees with earlier ones.
-use Rattle.std.proofs.Common.{◌≡◌, ℕ, ◌≤◌, List, Option, Some, None, IfSome, refl, ap, sym, subst, ◌∙◌, arith}
+use Rattle.std.proofs.Common.{◌≡◌, ℕ, List, Option, Some, None, IfSome, refl, sym, subst, arith}
 use Rattle.wc_eval.specs.declared.verdict.Verdict.{Verdict}
 use Rattle.wc_eval.specs.Verdicts.{VerdictsView, Oracle, Agrees, Stay, verdict_on, is_fine}
 

@@ -31,13 +31,13 @@ use Rattle.wc_board.proofs.PushConnections.{sent_client}
 use Rattle.wc_board.proofs.TellLaw.{rows_told}
 use Rattle.wc_servers.specs.Seats.{no_servers, open_of}
 use Rattle.wc_core.specs.CoreView.{CoreView}
-use Rattle.wc_core.specs.BoardSteps.{board_of, Pushes, Keeps}
-use Rattle.wc_core.proofs.BoardStepLemmas.{steps-one, steps-both}
+use Rattle.wc_core.specs.BoardSteps.{board_of, Keeps, Pushes, StepsBy}
+use Rattle.wc_core.proofs.BoardStepLemmas.{steps-one, steps-both, by-both, by-one}
 use Rattle.wc_board.specs.Answered.{IsPushed}
-use Rattle.wc_core.specs.Events.{Tick}
 use Rattle.wc_core.specs.State.{State, Stepped, first_state, has_end}
+use Rattle.wc_core.specs.Events.{Tick}
 use Rattle.wc_core.specs.Step.{step, client_link, pushed_to, push_step, pushes_of, push_at}
-use Rattle.wc_core.specs.Served.{links_of, clients_of, state_of, WereTold, Means, or_else, outs_of, Distinct, Follows, KeepsClients, Does}
+use Rattle.wc_core.specs.Served.{links_of, clients_of, state_of, WereTold, Means, or_else, outs_of, Distinct, Follows, KeepsClients, Does, plain_beside}
 use Rattle.wc_core.proofs.CloseLemmas.{pushes-closes}
 use Rattle.wc_core.proofs.ConnectionLemmas.{end-sends, outs-sends}
 use Rattle.wc_core.proofs.DidLemmas.{or_else-none, or-false, has_end-append, outs_of-append, no-outs, no-order, servers-same, saves-as}
@@ -45,6 +45,7 @@ use Rattle.wc_core.proofs.PushBytes.{pushes-sent, pushed-clients}
 use Rattle.wc_eval.specs.Verdicts.{Oracle, VerdictsView}
 use Rattle.wc_core.proofs.ComeLemmas.{ServersKeep-refl}
 use Rattle.wc_core.proofs.OracleLemmas.{verdicts-same, Stay-refl}
+use Rattle.wc_core.specs.Contained.{Rest, beside_in, rest_in, state_with, Holds, IsDone, Contains, Counts, Runs}
 
 -- ---- the core at first
 
@@ -66,9 +67,9 @@ no_rows_held = record { ascending = tt; keyed = tt; held = λ k r e. absurd (cc)
 first_held : (limit : ℕ) → AreHeld (first_world limit)
 first_held limit b = subst IsRows (sym (first_rows limit b)) no_rows_held
 
-pub first-means : (oracle : Oracle) (verdicts : VerdictsView) (options : OptionsValue) (limit : ℕ) (commands : List (List ℕ)) (starved : ℕ) (quits : Bool)
-    → Means (record { options = options; world = first_world limit; pending = []; connections = []; moment = 0; commands = commands; saved = None; unwritten = false; servers = no_servers; verdicts = verdicts; connects = true; starved = starved; quits = quits }) (first_state oracle options limit commands)
-first-means oracle verdicts options limit commands starved quits = record { same = refl; told = rows_told (first_world limit) [] (first_held limit) (λ b. refl) }
+pub first-means : (oracle : Oracle) (verdicts : VerdictsView) (options : OptionsValue) (limit : ℕ) (commands : List (List ℕ)) (starved cuts : ℕ) (quits : Bool)
+    → Means (record { options = options; world = first_world limit; pending = []; connections = []; moment = 0; commands = commands; saved = None; unwritten = false; servers = no_servers; verdicts = verdicts; connects = true; starved = starved; cuts = cuts; quits = quits }) (first_state oracle options limit commands)
+first-means oracle verdicts options limit commands starved cuts quits = record { same = refl; told = rows_told (first_world limit) [] (first_held limit) (λ b. refl) }
 
 -- ---- what is kept of touches
 
@@ -92,20 +93,25 @@ keeps-touches old pending same = record {
 }
 
 -- so what is done after that is done
-pub Does-over : (old mid new : CoreView) (step : State → Stepped) → mid ≡ record old { pending = mid.pending } → AreSameTouches old.pending mid.pending → Does mid new step → Does old new step
-Does-over old mid new step e same done =
-    let P : CoreView → Type 0 = λ c. Does c new step in
+pub Runs-over : (old mid new : CoreView) (step : State → Stepped) → mid ≡ record old { pending = mid.pending } → AreSameTouches old.pending mid.pending → Runs mid new step → Runs old new step
+Runs-over old mid new step e same done =
+    let P : CoreView → Type 0 = λ c. Runs c new step in
     over (subst P e done)
   where
-    over : Does (record old { pending = mid.pending }) new step → Does old new step
+    over : Runs (record old { pending = mid.pending }) new step → Runs old new step
     over done = λ told.
         let f = done told in
         record {
           keeps = record { board = steps-both (board_of old) (record (board_of old) { pending = mid.pending }) (board_of new) (steps-one (board_of old) (record (board_of old) { pending = mid.pending }) (Keeps (record { same = same; put = refl }))) f.keeps.board; rises = f.keeps.rises; links = f.keeps.links; kept = f.keeps.kept; saves = f.keeps.saves; servers = f.keeps.servers; verdicts = f.keeps.verdicts };
+          board = by-both (board_of old) (record (board_of old) { pending = mid.pending }) (board_of new) (by-one (board_of old) (record (board_of old) { pending = mid.pending }) (Keeps (record { same = same; put = refl })) tt) f.board;
+          counts = record { dropped = f.counts.dropped; short = f.counts.short; own = f.counts.own; lost = f.counts.lost; leaving = f.counts.leaving; counted = f.counts.counted; cuts = f.counts.cuts };
           causes = f.causes;
-          does = λ stays below distinct were agrees.
-              let g = f.does stays below distinct (same-told old mid.pending told same were) agrees in
+          does = λ here stays below distinct were agrees.
+              let g = f.does here stays below distinct (same-told old mid.pending (beside_in told) same were) agrees in
               record { means = g.means; oracle = g.oracle; bytes = g.bytes; leaving = g.leaving; quits = g.quits; servers = g.servers; parts = g.parts };
+          contains = λ below distinct were agrees.
+              let is = f.contains below distinct (same-told old mid.pending (beside_in told) same were) agrees in
+              record { whole = λ uncut. (let d = is.whole uncut in record { holds = d.holds; is_on = d.is_on; oracle = d.oracle; quits = d.quits; servers = d.servers }); part = is.part };
         }
 
 -- ---- pushes
@@ -168,6 +174,7 @@ pub record IsPushedCore (old new : CoreView) : Type 0 where
   pub kept : ConnectionsKept old.connections new.connections
   pub rows : AreTold new.world new.pending (rows_at new.world)
   pub rises : old.starved ≤ new.starved
+  pub counts : Counts 0 old new
   -- all of it is done, or want of memory was counted
   pub all : (old.starved < 2 ^ 64 - 1 → new.starved ≡ old.starved → (told : ℕ → List Row) → AreTold old.world old.pending told → new.connections ≡ map (pushed_connection old.world told (order old.world.groups)) old.connections)
 
@@ -182,17 +189,34 @@ pushed_keeps old new is = record {
   verdicts = verdicts-same old.verdicts new.verdicts (ap (λ (c : CoreView). c.verdicts) is.stays);
 }
 
-pub push-done : (old new : CoreView) → IsPushedCore old new → Does old new push_step
+pub push-done : (old new : CoreView) → IsPushedCore old new → Runs old new push_step
 push-done old new is = λ told. record {
   keeps = pushed_keeps old new is;
-  causes = λ distinct j. inr (ConnectionsKept-causes j old.connections new.connections is.kept);
-  does = λ same below distinct were agrees. by told same below distinct were;
+  board = by-one (board_of old) (board_of new) (Pushes is.board) tt;
+  counts = is.counts;
+  causes = λ here distinct j. inr (ConnectionsKept-causes j old.connections new.connections is.kept);
+  does = λ here same below distinct were agrees.
+      let P : List Client → Type 0 = λ clients. Follows (beside_in told) old new (push_step (record (state_with old told) { clients = clients })) in
+      subst P (sym here) (by (beside_in told) same below distinct were);
+  contains = λ below distinct were agrees. record { whole = λ uncut. done told; part = record { state = (push_step (state_with old told)).state; is_on = inr refl; holds = (done told).holds } };
 } where
   next : CoreView
   next = record old { pending = new.pending; connections = new.connections; starved = new.starved }
 
   rows : AreTold old.world new.pending (rows_at old.world)
   rows = let P : World → Type 0 = λ w. AreTold w new.pending (rows_at w) in subst P (ap (λ (c : CoreView). c.world) is.stays) is.rows
+
+  done : (told : Rest) → IsDone told old new (push_step (state_with old told))
+  done told =
+      let state = state_with old told in
+      let P : CoreView → Type 0 = λ c. IsDone told old c (push_step state) in
+      subst P (sym is.stays) (record {
+        holds = record { same = refl; told = rows };
+        is_on = inr refl;
+        oracle = refl;
+        quits = sym (ap (λ t. old.quits || t) (pushes-end state) ∙ or-false old.quits);
+        servers = no-outs old next (push_step state).acts refl (pushes-outs state);
+      })
 
   by : (told : Beside) → new.starved ≡ old.starved → old.starved < 2 ^ 64 - 1 → Distinct (links_of old) → WereTold old told → Follows told old new (push_step (state_of old told))
   by told same below distinct were =
@@ -210,11 +234,32 @@ push-done old new is = λ told. record {
         parts = no-order old next (push_step state).acts refl (pushes-outs state);
       })
 
-pub tick-done : (old new : CoreView) (moment : ℕ) → Does (record old { moment = moment }) new push_step → Does old new (λ state. step state (Tick moment))
-tick-done old new moment done = λ told.
-    let f = done told in
+-- a tick sets the moment, and then pushes
+pub tick-done : (old new : CoreView) (moment : ℕ) → Runs (record old { moment = moment }) new push_step → Does old new (λ state. step state (Tick moment))
+tick-done old new moment run = λ told.
+    let f = run (rest_in old told) in
     record {
       keeps = record { board = f.keeps.board; rises = f.keeps.rises; links = f.keeps.links; kept = f.keeps.kept; saves = f.keeps.saves; servers = f.keeps.servers; verdicts = f.keeps.verdicts };
-      causes = f.causes;
-      does = λ same below distinct were agrees. (let g = f.does same below distinct were agrees in record { means = g.means; oracle = g.oracle; bytes = g.bytes; leaving = g.leaving; quits = g.quits; servers = g.servers; parts = g.parts });
+      causes = λ distinct j. f.causes refl distinct j;
+      does = λ same below distinct were agrees. (let g = f.does refl same below distinct were agrees in record { means = g.means; oracle = g.oracle; bytes = g.bytes; leaving = g.leaving; quits = g.quits; servers = g.servers; parts = g.parts });
     }
+
+-- nothing of it is cut short
+pub tick-contained : (old new : CoreView) (moment : ℕ) → Runs (record old { moment = moment }) new push_step → new.cuts ≡ old.cuts → Contains old new (λ state. step state (Tick moment))
+tick-contained old new moment run uncut = λ told below distinct were agrees.
+    let d = ((run (rest_in old told)).contains below distinct were agrees).whole uncut in
+    let holds : Holds new (step (state_of old told) (Tick moment)).state = record { same = d.holds.same; told = d.holds.told } in
+    record {
+      whole = λ same. record { holds = holds; is_on = inr refl; oracle = d.oracle; quits = d.quits; servers = d.servers };
+      part = record { state = (step (state_of old told) (Tick moment)).state; is_on = inr refl; holds = holds };
+    }
+
+pub tick-counts : (old new : CoreView) (moment : ℕ) → Runs (record old { moment = moment }) new push_step → Counts 0 old new
+tick-counts old new moment run =
+    let f = (run (rest_in old (plain_beside old))).counts in
+    record { dropped = f.dropped; short = f.short; own = f.own; lost = f.lost; leaving = f.leaving; counted = f.counted; cuts = f.cuts }
+
+pub tick-board : (old new : CoreView) (moment : ℕ) → Runs (record old { moment = moment }) new push_step → StepsBy None (board_of old) (board_of new)
+tick-board old new moment run =
+    let f = (run (rest_in old (plain_beside old))).board in
+    record { boards = f.boards; steps = f.steps }

@@ -1,5 +1,5 @@
 -- What the core's calls do, against the steps.
-use Rattle.std.proofs.Common.{◌≡◌, ◌≢◌, ℕ, ◌≤◌, Bool, true, false, cond, eqb, List, [], ◌∷◌, ◌++◌, Option, Some, None, IsSome, inl, inr, not, refl, ap, sym, subst, ◌∙◌, ◌||◌, arith, append-nil}
+use Rattle.std.proofs.Common.{◌≡◌, ◌≢◌, ℕ, ◌≤◌, Bool, true, false, cond, eqb, List, [], ◌∷◌, ◌++◌, Option, Some, None, IsSome, inl, not, refl, ap, sym, subst, ◌∙◌, ◌||◌, arith, append-nil}
 use Rattle.std.specs.Prelude.{map}
 use Rattle.std.specs.List.{flat_map}
 use Rattle.std.specs.Option.{is_none, option_copied}
@@ -27,19 +27,22 @@ use Rattle.wc_core.specs.State.{State, Stepped, has_end}
 use Rattle.wc_core.specs.Inputs.{GoesOn, Stops}
 use Rattle.wc_core.specs.Step.{client_link, sends, no_step, then_does, tell_all_step, input_step, lines_step, leave_step}
 use Rattle.wc_board.specs.Connections.{connection_link, is_open, unsent_in, unsent_on, leaving_in, leaving_on}
-use Rattle.wc_core.specs.Served.{links_of, clients_of, state_of, WereTold, or_else, close_of, LeavesBy, Distinct, Follows, KeepsSaved, KeepsClients, FollowsUnlessStarved, Does}
-use Rattle.wc_board.specs.Served.{StaysOrStarves, told_connection, ConnectionsKept}
+use Rattle.wc_core.specs.Served.{links_of, clients_of, state_of, WereTold, or_else, close_of, Distinct, Follows, KeepsSaved, KeepsClients}
+use Rattle.wc_core.specs.Contained.{state_with, IsOn, RunsAt, Runs}
+use Rattle.wc_board.specs.Served.{told_connection, ConnectionsKept}
 use Rattle.wc_board.specs.Told.{Told}
 use Rattle.wc_core.specs.State.{Beside}
 use Rattle.wc_servers.proofs.OutLemmas.{ServersFollow-refl}
 use Rattle.wc_core.specs.ServersKept.{ServersKeep}
 use Rattle.wc_core.proofs.ComeLemmas.{ServersKeep-refl, LeaveInOrder-refl}
-use Rattle.wc_core.proofs.DidLemmas.{no-outs, no-order, or_else-none, or-false, Does-stays, FollowsUnlessStarved-then}
+use Rattle.wc_core.proofs.DidLemmas.{no-outs, no-order, or_else-none, or-false}
+use Rattle.wc_core.proofs.RunLemmas.{Runs-stays}
 use Rattle.wc_core.proofs.CloseLemmas.{input-closes, runs-closes}
 use Rattle.wc_core.proofs.ConnectionLemmas.{sent-sends, close-sends, outs-sends, end-sends, close-told, outs-told, end-told, told-clients, told-leaving, told-bytes, clients-put, clients-leave}
 use Rattle.wc_board.proofs.ConnectionLemmas.{ConnectionsKept-links, ConnectionsKept-leaving}
-use Rattle.wc_core.proofs.StartLemmas.{ends-first, goes-on}
+use Rattle.wc_core.proofs.ChainLemmas.{on_both, ends-first, goes-on, RunsAt-cut}
 use Rattle.wc_core.proofs.OracleLemmas.{verdicts-same, Stay-refl}
+use Rattle.wc_core.specs.Changing.{reach_step}
 
 -- ---- a notice that is told
 
@@ -131,7 +134,7 @@ reply-left old k s session' messages j at sits key = leaving-put old k s session
 
 pub Follows-reply : (told : Beside) (old : CoreView) (k : ℕ) (s : Connection) (session' : Known) (messages : List WireMessage) → at_key connection_link k old.connections ≡ Some s → is_open s ≡ true → client_link session'.client ≡ k
     → session'.unsent ≡ s.session.unsent ++ flat_map (λ m. spelling m) messages → WereTold old told
-    → Follows told old (record old { connections = put_at connection_link k (record { session = session'; leaving = None }) old.connections }) (record { state = record (state_of old told) { clients = put_at client_link k session'.client (clients_of old.connections) }; acts = sends k messages })
+    → Follows told old (record old { connections = put_at connection_link k (record { session = session'; leaving = None }) old.connections }) (reach_step (record (state_of old told) { clients = put_at client_link k session'.client (clients_of old.connections) }) (sends k messages))
 Follows-reply told old k s session' messages at sits key e were = record {
   means = record { same = rw (clients-put k old.connections s session' at sits) refl; told = were };
   oracle = refl;
@@ -189,17 +192,6 @@ Follows-leave told old k s why distinct at sits were = record {
 
 -- ---- a text that is typed
 
--- a step that closes no one, of which memory was refused
-FollowsUnlessStarved-cut : (told : Beside) (a b : CoreView) (s t : Stepped) → ((j : ℕ) → close_of j s.acts ≡ None) → b.starved ≢ a.starved → FollowsUnlessStarved told a b s → FollowsUnlessStarved told a b t
-FollowsUnlessStarved-cut told a b s t closes starved f = record {
-  keeps = f.keeps;
-  causes = λ distinct j. inr (by j (f.causes distinct j));
-  does = λ same below distinct were agrees. absurd (starved same);
-} where
-  by : (j : ℕ) → LeavesBy (leaving_on j a.connections) (close_of j s.acts) (leaving_on j b.connections) → StaysOrStarves (leaving_on j a.connections) (leaving_on j b.connections)
-  by j (inl e) = inl (e ∙ ap (or_else (leaving_on j a.connections)) (closes j) ∙ or_else-none (leaving_on j a.connections))
-  by j (inr e) = e
-
 -- what a line does to a buffer that is there
 runs-there : (P : Stepped → Type 0) (a : State) (buffer : Handle) (line : List ℕ) (lines : List (List ℕ)) → is_there buffer a.world.groups ≡ true
     → P (cond (has_end (input_step a buffer line).acts) (input_step a buffer line) (then_does (input_step a buffer line) (λ next. lines_step next buffer lines))) → P (lines_step a buffer (line ∷ lines))
@@ -210,48 +202,83 @@ runs-there P a buffer line lines there f =
     subst Q (sym there) f
 
 -- one line, and the lines after it
-pub Does-runs : (a b c : CoreView) (buffer : Handle) (line : List ℕ) (lines : List (List ℕ)) → is_there buffer a.world.groups ≡ true → a.quits ≡ false → GoesOn a b buffer line → Does b c (λ state. lines_step state buffer lines)
-    → Does a c (λ state. lines_step state buffer (line ∷ lines))
-Does-runs a b c buffer line lines there going f g = λ told.
-    let P : Stepped → Type 0 = λ s. FollowsUnlessStarved told a c s in
-    runs-there P (state_of a told) buffer line lines there
-    (goes-on a b c (λ state. input_step state buffer line) (λ next. lines_step next buffer lines) (λ j state. input-closes j state buffer line) (λ j state. runs-closes j state buffer lines) going f.goes f.does g told)
+pub runs-lines : (a b c : CoreView) (buffer : Handle) (line : List ℕ) (lines : List (List ℕ)) → is_there buffer a.world.groups ≡ true → a.quits ≡ false → GoesOn a b buffer line → Runs b c (λ state. lines_step state buffer lines)
+    → Runs a c (λ state. lines_step state buffer (line ∷ lines))
+runs-lines a b c buffer line lines there going f g = λ told.
+    let P : Stepped → Type 0 = λ s. RunsAt told a c s in
+    runs-there P (state_with a told) buffer line lines there
+    (goes-on a b c (λ state. input_step state buffer line) (λ next. lines_step next buffer lines) (λ j state. input-closes j state buffer line) (λ j state. runs-closes j state buffer lines) going f.goes f.uncut f.runs g told)
 
--- the lines after it are skipped where the run is to end, and where memory was refused
-pub stops-quit : (a b : CoreView) (buffer : Handle) (line : List ℕ) → a.quits ≡ false → b.quits ≡ true → Does a b (λ state. input_step state buffer line) → Stops a b buffer line
+-- the lines after it are skipped where the run is to end, and where it was cut short
+pub stops-quit : (a b : CoreView) (buffer : Handle) (line : List ℕ) → a.quits ≡ false → b.quits ≡ true → Runs a b (λ state. input_step state buffer line) → Stops a b buffer line
 stops-quit a b buffer line going quit f = λ lines there told.
-    let P : Stepped → Type 0 = λ s. FollowsUnlessStarved told a b s in
-    runs-there P (state_of a told) buffer line lines there
+    let P : Stepped → Type 0 = λ s. RunsAt told a b s in
+    runs-there P (state_with a told) buffer line lines there
     (ends-first a b (λ state. input_step state buffer line) (λ next. lines_step next buffer lines) (λ j state. input-closes j state buffer line) going quit f told)
 
-pub stops-starved : (a b : CoreView) (buffer : Handle) (line : List ℕ) → b.starved ≢ a.starved → Does a b (λ state. input_step state buffer line) → Stops a b buffer line
-stops-starved a b buffer line starved f = λ lines there told.
-    let state = state_of a told in
-    FollowsUnlessStarved-cut told a b (input_step state buffer line) (lines_step state buffer (line ∷ lines)) (λ j. input-closes j state buffer line) starved (f told)
+pub stops-cut : (a b : CoreView) (buffer : Handle) (line : List ℕ) → b.cuts ≢ a.cuts → Runs a b (λ state. input_step state buffer line) → Stops a b buffer line
+stops-cut a b buffer line cut f = λ lines there told.
+    let state = state_with a told in
+    let one = input_step state buffer line in
+    let longer : (x first : State) → IsOn x first one.way → IsOn x first (lines_step state buffer (line ∷ lines)).way =
+    λ x first on. (let P : Stepped → Type 0 = λ s. IsOn x first s.way in runs-there P state buffer line lines there (on_both one (λ next. lines_step next buffer lines) x first on)) in
+    RunsAt-cut told a b one (lines_step state buffer (line ∷ lines)) (λ j. input-closes j state buffer line) cut longer (f told)
 
 left_lines : (left : Option (Bor (List ℕ))) (rest : Bor (List ℕ)) (line : List ℕ) (others : Option (Bor (List ℕ))) → left ≡ Some rest → line ≡ before 10 rest.now → option_copied others ≡ text_after 10 rest.now → line ∷ lines_left others ≡ lines_left left
 left_lines left rest line others e front back = ap (λ l. l ∷ lines_left others) front ∙ lines_left-split rest.now others back ∙ sym (ap lines_left e)
 
 -- a buffer that is not there, before the lines that are left
 pub gone_left : (a : CoreView) (buffer : Handle) (left : Option (Bor (List ℕ))) (rest : Bor (List ℕ)) (line : List ℕ) (others : Option (Bor (List ℕ))) → left ≡ Some rest → line ≡ before 10 rest.now → option_copied others ≡ text_after 10 rest.now
-    → is_there buffer a.world.groups ≡ false → Does a a (λ state. lines_step state buffer (lines_left left))
+    → is_there buffer a.world.groups ≡ false → Runs a a (λ state. lines_step state buffer (lines_left left))
 gone_left a buffer left rest line others e front back there = λ told.
-    let state = state_of a told in
-    let P : List (List ℕ) → Type 0 = λ lines. FollowsUnlessStarved told a a (lines_step state buffer lines) in
+    let state = state_with a told in
+    let P : List (List ℕ) → Type 0 = λ lines. RunsAt told a a (lines_step state buffer lines) in
     let one = input_step state buffer line in
-    let Q : Bool → Type 0 = λ t. FollowsUnlessStarved told a a (cond (not t) (no_step state) (cond (has_end one.acts) one (then_does one (λ next. lines_step next buffer (lines_left others))))) in
-    subst P (left_lines left rest line others e front back) (subst Q (sym there) (Does-stays a told))
+    let Q : Bool → Type 0 = λ t. RunsAt told a a (cond (not t) (no_step state) (cond (has_end one.acts) one (then_does one (λ next. lines_step next buffer (lines_left others))))) in
+    subst P (left_lines left rest line others e front back) (subst Q (sym there) (Runs-stays a told))
 
 -- a line after which the lines that are left are skipped
 pub quit_left : (a b : CoreView) (buffer : Handle) (left : Option (Bor (List ℕ))) (rest : Bor (List ℕ)) (line : List ℕ) (others : Option (Bor (List ℕ))) → left ≡ Some rest → line ≡ before 10 rest.now → option_copied others ≡ text_after 10 rest.now
-    → is_there buffer a.world.groups ≡ true → Stops a b buffer line → Does a b (λ state. lines_step state buffer (lines_left left))
+    → is_there buffer a.world.groups ≡ true → Stops a b buffer line → Runs a b (λ state. lines_step state buffer (lines_left left))
 quit_left a b buffer left rest line others e front back there stops = λ told.
-    let P : List (List ℕ) → Type 0 = λ lines. FollowsUnlessStarved told a b (lines_step (state_of a told) buffer lines) in
+    let P : List (List ℕ) → Type 0 = λ lines. RunsAt told a b (lines_step (state_with a told) buffer lines) in
     subst P (left_lines left rest line others e front back) (stops (lines_left others) there told)
 
 -- another line, before the lines that are left
 pub more_left : (a b c : CoreView) (buffer : Handle) (left : Option (Bor (List ℕ))) (rest : Bor (List ℕ)) (line : List ℕ) (others : Option (Bor (List ℕ))) → left ≡ Some rest → line ≡ before 10 rest.now → option_copied others ≡ text_after 10 rest.now
-    → is_there buffer a.world.groups ≡ true → a.quits ≡ false → GoesOn a b buffer line → Does b c (λ state. lines_step state buffer (lines_left others)) → Does a c (λ state. lines_step state buffer (lines_left left))
+    → is_there buffer a.world.groups ≡ true → a.quits ≡ false → GoesOn a b buffer line → Runs b c (λ state. lines_step state buffer (lines_left others)) → Runs a c (λ state. lines_step state buffer (lines_left left))
 more_left a b c buffer left rest line others e front back there going f g = λ told.
-    let P : List (List ℕ) → Type 0 = λ lines. FollowsUnlessStarved told a c (lines_step (state_of a told) buffer lines) in
-    subst P (left_lines left rest line others e front back) (Does-runs a b c buffer line (lines_left others) there going f g told)
+    let P : List (List ℕ) → Type 0 = λ lines. RunsAt told a c (lines_step (state_with a told) buffer lines) in
+    subst P (left_lines left rest line others e front back) (runs-lines a b c buffer line (lines_left others) there going f g told)
+
+-- what is done as if no `/quit` had been run before
+pub goes-aside : (old mid : CoreView) (quit' quit : Bool) (step : State → Stepped) → quit' ≡ false → quit ≡ old.quits → Runs (record old { quits = quit' }) mid step → Runs old (record mid { quits = mid.quits || quit }) step
+goes-aside old mid quit' quit step going was run =
+    let P : Bool → Type 0 = λ quits. Runs (record old { quits = quits }) mid step in
+    let Q : Bool → Type 0 = λ quit. Runs old (record mid { quits = mid.quits || quit }) step in
+    subst Q (sym was) (aside (subst P going run))
+  where
+    or-turned : (a b : Bool) → ((false || a) || b) ≡ (b || a)
+    or-turned true true = refl
+    or-turned true false = refl
+    or-turned false true = refl
+    or-turned false false = refl
+
+    aside : Runs (record old { quits = false }) mid step → Runs old (record mid { quits = mid.quits || old.quits }) step
+    aside run = λ told.
+        let f = run told in
+        record {
+          keeps = record { board = f.keeps.board; rises = f.keeps.rises; links = f.keeps.links; kept = f.keeps.kept; saves = f.keeps.saves; servers = f.keeps.servers; verdicts = f.keeps.verdicts };
+          board = record { boards = f.board.boards; steps = f.board.steps };
+          counts = record { dropped = f.counts.dropped; short = f.counts.short; own = f.counts.own; lost = f.counts.lost; leaving = f.counts.leaving; counted = f.counts.counted; cuts = f.counts.cuts };
+          causes = f.causes;
+          does = λ here same below distinct were agrees.
+              let g = f.does here same below distinct were agrees in
+              record { means = record { same = g.means.same; told = g.means.told }; oracle = g.oracle; bytes = g.bytes; leaving = g.leaving; quits = ap (λ t. t || old.quits) g.quits ∙ or-turned _ old.quits; servers = g.servers; parts = g.parts };
+          contains = λ below distinct were agrees.
+              let is = f.contains below distinct were agrees in
+              record {
+                whole = λ same. (let d = is.whole same in record { holds = record { same = d.holds.same; told = d.holds.told }; is_on = d.is_on; oracle = d.oracle; quits = ap (λ t. t || old.quits) d.quits ∙ or-turned _ old.quits; servers = d.servers });
+                part = record { state = is.part.state; is_on = is.part.is_on; holds = record { same = is.part.holds.same; told = is.part.holds.told } };
+              };
+        }

@@ -9,24 +9,34 @@ use Rattle.wc_core.specs.ServerTyped.{connect_all_step}
 use Rattle.wc_board.specs.Connections.{leaving_on}
 use Rattle.wc_board.specs.Served.{StaysOrStarves}
 use Rattle.wc_core.specs.Served.{state_of, or_else, close_of, LeavesBy, Follows, Does}
-use Rattle.wc_core.proofs.ChainLemmas.{ClosesNone, Does-then}
+use Rattle.wc_core.proofs.ChainLemmas.{ClosesNone, later-none}
 use Rattle.wc_core.proofs.ChangeCloses.{then-closes}
 use Rattle.wc_core.proofs.ServerCloses.{connects_all-closes}
 use Rattle.wc_core.proofs.CloseLemmas.{runs-closes, commands-closes}
-use Rattle.wc_core.proofs.DidLemmas.{or_else-none}
+use Rattle.wc_core.proofs.DidLemmas.{or_else-none, FollowsUnlessStarved-then}
 use Rattle.wc_core.proofs.OracleLemmas.{Agrees-before}
 use Rattle.wc_core.specs.State.{beside}
+use Rattle.std.proofs.lemmas.Bool.{false≢true}
+use Rattle.wc_core.specs.Contained.{Runs}
+use Rattle.wc_core.specs.Starts.{RunsInput, RunsCommands, RunsStart, Starts}
+use Rattle.wc_core.proofs.RunLemmas.{contains-of, counts-of, board-of}
 
 -- a step that closes none, in the place of another one that closes none
 stays-by : (j : ℕ) (a b : CoreView) (s : Stepped) → close_of j s.acts ≡ None → LeavesBy (leaving_on j a.connections) (close_of j s.acts) (leaving_on j b.connections) → StaysOrStarves (leaving_on j a.connections) (leaving_on j b.connections)
 stays-by j a b s none (inl e) = inl (e ∙ ap (or_else (leaving_on j a.connections)) none ∙ or_else-none (leaving_on j a.connections))
 stays-by j a b s none (inr e) = e
 
+-- one after another, of which each may be cut short
+Does-then : (a b c : CoreView) (first next : State → Stepped) → ClosesNone first → ClosesNone next → Does a b first → Does b c next → Does a c (λ state. then_does (first state) next)
+Does-then a b c first next f_none n_none f g = λ told.
+    let one = first (state_of a told) in
+    FollowsUnlessStarved-then told a b c one next (later-none b one next (λ j. f_none j (state_of a told)) n_none) (f told) g
+
 ended : (before after end : Bool) → before ≡ false → after ≡ (before || end) → end ≡ after
 ended before after end going e = sym (e ∙ ap (λ t. t || end) going)
 
 -- a step that ran `/quit`, before another one
-pub ends-first : (a b : CoreView) (first next : State → Stepped) → ClosesNone first → a.quits ≡ false → b.quits ≡ true → Does a b first → Does a b (λ state. cond (has_end (first state).acts) (first state) (then_does (first state) next))
+ends-first : (a b : CoreView) (first next : State → Stepped) → ClosesNone first → a.quits ≡ false → b.quits ≡ true → Does a b first → Does a b (λ state. cond (has_end (first state).acts) (first state) (then_does (first state) next))
 ends-first a b first next none going quit done = λ told.
     let f = done told in
     let one = first (state_of a told) in
@@ -40,7 +50,7 @@ ends-first a b first next none going quit done = λ told.
     }
 
 -- one that did not, and the other one
-pub goes-on : (a b c : CoreView) (first next : State → Stepped) → ClosesNone first → ClosesNone next → a.quits ≡ false → b.quits ≡ false → Does a b first → Does b c next
+goes-on : (a b c : CoreView) (first next : State → Stepped) → ClosesNone first → ClosesNone next → a.quits ≡ false → b.quits ≡ false → Does a b first → Does b c next
     → Does a c (λ state. cond (has_end (first state).acts) (first state) (then_does (first state) next))
 goes-on a b c first next none none' going on done more = λ told.
     let f = done told in
@@ -79,30 +89,6 @@ pub starts-more : (a b c : CoreView) (commands : List (List ℕ)) → a.quits �
 starts-more a b c commands going on done more =
     goes-on a b c (λ state. commands_step state commands) connect_all_step (λ j state. commands-closes j state commands) (λ j state. connects_all-closes j state) going on done more
 
--- what is done as if no `/quit` had been run before
-pub goes-aside : (old mid : CoreView) (quit' quit : Bool) (step : State → Stepped) → quit' ≡ false → quit ≡ old.quits → Does (record old { quits = quit' }) mid step → Does old (record mid { quits = mid.quits || quit }) step
-goes-aside old mid quit' quit step going was done =
-    let P : Bool → Type 0 = λ quits. Does (record old { quits = quits }) mid step in
-    let Q : Bool → Type 0 = λ quit. Does old (record mid { quits = mid.quits || quit }) step in
-    subst Q (sym was) (aside (subst P going done))
-  where
-    or-turned : (a b : Bool) → ((false || a) || b) ≡ (b || a)
-    or-turned true true = refl
-    or-turned true false = refl
-    or-turned false true = refl
-    or-turned false false = refl
-
-    aside : Does (record old { quits = false }) mid step → Does old (record mid { quits = mid.quits || old.quits }) step
-    aside done = λ told.
-        let f = done told in
-        record {
-          keeps = record { board = f.keeps.board; rises = f.keeps.rises; links = f.keeps.links; kept = f.keeps.kept; saves = f.keeps.saves; servers = f.keeps.servers; verdicts = f.keeps.verdicts };
-          causes = f.causes;
-          does = λ same below distinct were agrees.
-              let g = f.does same below distinct were agrees in
-              record { means = record { same = g.means.same; told = g.means.told }; oracle = g.oracle; bytes = g.bytes; leaving = g.leaving; quits = ap (λ t. t || old.quits) g.quits ∙ or-turned _ old.quits; servers = g.servers; parts = g.parts };
-        }
-
 -- the start sets the moment, and its commands are run as if no `/quit` had been run before
 pub started : (old new : CoreView) (moment : ℕ) → Does (record old { moment = moment; commands = []; quits = false }) new (λ state. start_step state old.commands) → Does old (record new { quits = new.quits || old.quits }) (λ state. start_step (record state { moment = moment; commands = [] }) state.commands)
 started old new moment done = λ told.
@@ -129,6 +115,32 @@ started-by old mid commands rest quit' quit moment none going was same done =
     let R : List (List ℕ) → Type 0 = λ commands. Does (record old { moment = moment; commands = []; quits = false }) mid (λ state. start_step state commands) in
     let S : Bool → Type 0 = λ quit. Does old (record mid { quits = mid.quits || quit }) (λ state. start_step (record state { moment = moment; commands = [] }) state.commands) in
     subst S (sym was) (started old mid moment (subst R same (subst Q going (subst P none done))))
+
+-- ---- each command as an input of its own
+
+pub runs-input : (a b : CoreView) (step : State → Stepped) → Runs a b step → RunsInput a b step
+runs-input a b step run = record { contained = contains-of a b step run; counted = counts-of a b step run; drops = board-of a b step run }
+
+pub command-last : (a b : CoreView) (command : List ℕ) (commands : List (List ℕ)) → b.quits ≡ true → RunsInput a b (λ state. lines_step state core_buffer (lines_of_text command)) → RunsCommands (command ∷ commands) a b
+command-last a b command commands quit run = record { mid = b; runs = run; ends = λ same. refl; goes_on = λ on. absurd (false≢true (sym on ∙ quit)) }
+
+pub command-more : (a b c : CoreView) (command : List ℕ) (commands : List (List ℕ)) → b.quits ≡ false → RunsInput a b (λ state. lines_step state core_buffer (lines_of_text command)) → RunsCommands commands b c → RunsCommands (command ∷ commands) a c
+command-more a b c command commands on run more = record { mid = b; runs = run; ends = λ quit. absurd (false≢true (sym on ∙ quit)); goes_on = λ same. more }
+
+pub start-last : (a b : CoreView) (commands : List (List ℕ)) → b.quits ≡ true → RunsCommands commands a b → RunsStart commands a b
+start-last a b commands quit runs = record { mid = b; runs = runs; ends = λ same. refl; connects = λ on. absurd (false≢true (sym on ∙ quit)) }
+
+pub start-more : (a b c : CoreView) (commands : List (List ℕ)) → b.quits ≡ false → RunsCommands commands a b → Runs b c connect_all_step → RunsStart commands a c
+start-more a b c commands on runs run = record { mid = b; runs = runs; ends = λ quit. absurd (false≢true (sym on ∙ quit)); connects = λ same. runs-input b c connect_all_step run }
+
+pub starts-by : (old mid : CoreView) (commands rest : List (List ℕ)) (quit' quit : Bool) (moment : ℕ) → rest ≡ [] → quit' ≡ false → quit ≡ old.quits → commands ≡ old.commands
+    → RunsStart commands (record old { moment = moment; commands = rest; quits = quit' }) mid → Starts moment old (record mid { quits = mid.quits || quit })
+starts-by old mid commands rest quit' quit moment none going was same done =
+    let P : List (List ℕ) → Type 0 = λ rest. RunsStart commands (record old { moment = moment; commands = rest; quits = quit' }) mid in
+    let Q : Bool → Type 0 = λ quits. RunsStart commands (record old { moment = moment; commands = []; quits = quits }) mid in
+    let R : List (List ℕ) → Type 0 = λ commands. RunsStart commands (record old { moment = moment; commands = []; quits = false }) mid in
+    let F : Bool → CoreView = λ quit. record mid { quits = mid.quits || quit } in
+    record { last = mid; runs = subst R same (subst Q going (subst P none done)); put = ap F was }
 
 abbrev nothing : (X : Type 0) → List X
 nothing X = []

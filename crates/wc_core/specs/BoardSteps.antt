@@ -1,5 +1,5 @@
 -- What becomes of the board, one whole thing after another, also where memory is refused.
-use Rattle.std.specs.Prelude.{◌≡◌, ℕ, true, List, [], ◌∷◌, Some}
+use Rattle.std.specs.Prelude.{◌≡◌, ℕ, true, List, [], ◌∷◌, Option, Some}
 use Rattle.wc_text.specs.declared.names.Cause.{Cause}
 use Rattle.wc_outside.specs.Keyed.{at_key}
 use Rattle.wc_options.specs.Options.{OptionsValue}
@@ -77,3 +77,26 @@ StepsThrough (next ∷ boards) old new = BoardStep old next × StepsThrough boar
 pub record BoardSteps (old new : BoardView) : Type 0 where
   pub boards : List BoardView
   pub steps : StepsThrough boards old new
+
+-- a request was that of the client of this link, if it is one, and so was the loss of a client, but
+-- where it found no memory for an event or a push that it asked for
+abbrev pub IsBy : Option ℕ → (old new : BoardView) → BoardStep old new → Type 0
+IsBy own old new (Tells told) = Unit {0}
+IsBy own old new (Pushes pushed) = Unit {0}
+IsBy own old new (Answers answer) = own ≡ Some answer.link
+IsBy own old new (Loses loss) = own ≡ Some loss.link
+IsBy own old new (Keeps kept) = Unit {0}
+
+pub record StepBy (own : Option ℕ) (old new : BoardView) : Type 0 where
+  pub step : BoardStep old new
+  pub by : IsBy own old new step
+
+abbrev pub ThroughBy : Option ℕ → List BoardView → BoardView → BoardView → Type 0
+ThroughBy own [] old new = new ≡ old
+ThroughBy own (next ∷ boards) old new = StepBy own old next × ThroughBy own boards next new
+
+-- So a client is dropped by its own line or its own loss alone, or where it found no memory for what
+-- it asked to be told.
+pub record StepsBy (own : Option ℕ) (old new : BoardView) : Type 0 where
+  pub boards : List BoardView
+  pub steps : ThroughBy own boards old new

@@ -1,5 +1,5 @@
 -- What changes, pushes and options come to.
-use Rattle.std.specs.Prelude.{ℕ, List, [], ◌++◌, map, Option, Some, None}
+use Rattle.std.specs.Prelude.{ℕ, List, [], ◌∷◌, ◌++◌, map, Option, Some, None}
 use Rattle.std.specs.List.{flat_map}
 use Rattle.wc_text.specs.declared.names.Handle.{Handle}
 use Rattle.wc_nickdiff.specs.declared.diff_item.Push.{Push}
@@ -31,13 +31,23 @@ abbrev pub core_buffer : Handle
 core_buffer = record { 0 = 1 }
 
 abbrev pub no_step : State → Stepped
-no_step state = record { state = state; acts = [] }
+no_step state = record { state = state; acts = []; way = [] }
+
+-- the state becomes this one, and this is asked of the loop
+abbrev pub reach_step : State → List Act → Stepped
+reach_step state acts = record { state = state; acts = acts; way = state ∷ [] }
+
+-- the state becomes this one
+abbrev pub put_step : State → Stepped
+put_step state = reach_step state []
 
 abbrev pub then_does : Stepped → (State → Stepped) → Stepped
 then_does first others = record {
   state = (others first.state).state;
   acts = first.acts
       ++ (others first.state).acts;
+  way = first.way
+      ++ (others first.state).way;
 }
 
 -- messages for the client of a link
@@ -52,14 +62,12 @@ told_to world notice client = sends (client_link client) (notice_told world noti
 -- the world after a change of which this is noticed, the rows that then were last pushed, and what
 -- each client is told
 abbrev pub tell_all_step : State → Told → World → Notice → Stepped
-tell_all_step state told world notice = record {
-  state = record state {
-    world = world;
-    told = told;
-    clients = map (after_event notice.kind notice.buffer.0) state.clients;
-  };
-  acts = flat_map (told_to world notice) state.clients;
-}
+tell_all_step state told world notice = reach_step (record state {
+  world = world;
+  told = told;
+  clients = map (after_event notice.kind notice.buffer.0) state.clients;
+})
+    (flat_map (told_to world notice) state.clients)
 
 -- an accepted change
 abbrev pub change_step : State → Change → Stepped
@@ -100,16 +108,14 @@ pushes_of state buffer = flat_map (pushed_to (record { 0 = buffer }) (push_at st
 
 -- what became of each nicklist is pushed to each client that asked for it, in the order of buffers
 abbrev pub push_step : State → Stepped
-push_step state = record {
-  state = record state { told = state.world.nicks };
-  acts = flat_map (pushes_of state) (order state.world.groups);
-}
+push_step state = reach_step (record state { told = state.world.nicks })
+    (flat_map (pushes_of state) (order state.world.groups))
 
 -- ---- options
 
 -- an option gets a value, or why it does not is told
 abbrev pub set_step_if : State → List ℕ → List ℕ → Option SetRefused → Stepped
-set_step_if state name value None = no_step (record state {
+set_step_if state name value None = put_step (record state {
   options = with_value state.options name value;
 })
 set_step_if state name value (Some reason) = refusal_step state (option_text name reason)
@@ -120,7 +126,7 @@ set_step state name value = set_step_if state name value (refusal_of state.optio
 -- an option gets its default, where there is such an option
 abbrev pub unset_step_if : State → List ℕ → Option (List ℕ) → Stepped
 unset_step_if state name None = refusal_step state (option_text name UnknownOption)
-unset_step_if state name (Some value) = no_step (record state {
+unset_step_if state name (Some value) = put_step (record state {
   options = without_value state.options name;
 })
 
@@ -129,4 +135,4 @@ unset_step state name = unset_step_if state name (value_of state.options name)
 
 -- the options are saved as the text of their file
 abbrev pub save_step : State → Stepped
-save_step state = no_step (record state { saved = Some (config_text state.options) })
+save_step state = put_step (record state { saved = Some (config_text state.options) })

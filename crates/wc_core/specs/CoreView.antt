@@ -27,7 +27,9 @@ pub record CoreView : Type 0 where
   pub verdicts : VerdictsView
   -- whether servers are connected by themselves at the start
   pub connects : Bool
-  -- how often memory was refused
+  -- how many clients were dropped, links refused and inputs cut short for want of memory
   pub starved : ℕ
+  -- how many inputs were cut short for want of memory
+  pub cuts : ℕ
   -- whether the run is to end
   pub quits : Bool

@@ -1,5 +1,5 @@
 -- How the core runs what is typed.
-use Rattle.std.specs.Prelude.{◌≡◌, ℕ, true, false, ◌⊎◌, ◌&&◌, if◌then◌else◌, List, ◌∷◌, Option, Some, None}
+use Rattle.std.specs.Prelude.{◌≡◌, ℕ, ◌+◌, ◌<◌, true, false, ◌⊎◌, ◌&&◌, if◌then◌else◌, List, ◌∷◌, Option, Some, None}
 use Rattle.std.specs.Prelude.{IfSome}
 use Rattle.wc_text.specs.declared.names.Handle.{Handle}
 use Rattle.wc_buffers.specs.Calls.{is_there}
@@ -17,17 +17,16 @@ use Rattle.wc_session.specs.declared.client.Client.{Client}
 use Rattle.wc_session.specs.declared.outcome.Outcome.{Outcome}
 use Rattle.wc_board.specs.declared.connection.Connection.{Connection}
 use Rattle.wc_board.specs.Answered.{is_nicklist, AnsweredAt}
-use Rattle.wc_board.specs.Connections.{connection_link, is_open}
+use Rattle.wc_board.specs.Connections.{connection_link, is_open, is_open_at}
 use Rattle.wc_board.specs.Told.{AreSameTouches}
 use Rattle.wc_eval.specs.Verdicts.{Agrees, Stay}
-use Rattle.wc_core.specs.State.{State, Beside, Stepped}
-use Rattle.wc_core.specs.Served.{Does, state_of}
-use Rattle.wc_core.specs.Served.{RanOutOfMemory}
+use Rattle.wc_core.specs.State.{State, Stepped}
+use Rattle.wc_core.specs.Contained.{Rest, state_with, starving_number, raised, Runs, RanOutOfMemory}
 
 -- a change is made and told, or memory was refused
 abbrev pub MakesChange : CoreView → Change → CoreView → Type 0
 MakesChange old change new = ((refusal old.world change ≡ None)
-    × Does old new (λ state. change_step state change)) ⊎ RanOutOfMemory old new
+    × Runs old new (λ state. change_step state change)) ⊎ RanOutOfMemory old new
 
 -- a change is refused for this reason, and nothing is told
 pub record RefusesChange (old : CoreView) (change : Change) (reason : ChangeRefused)
@@ -46,7 +45,15 @@ pub record AnswersRequestOf (link : ℕ) (request : Request) (result : Outcome)
     (old new : CoreView) : Type 0 where
   pub between : CoreView
   pub pushed : IfSome (at_key connection_link link old.connections)
-      (λ connection. Does old between (λ state. push_before connection.session.client request state))
+      (λ connection. Runs old between (λ state. push_before connection.session.client request state))
+  -- which cut nothing short, and drop so many, each of whom is counted
+  pub uncut : between.cuts ≡ old.cuts
+  pub dropped : ℕ
+  pub left : starving_number between.connections ≡ starving_number old.connections + dropped
+  pub counted : between.starved ≡ raised old.starved dropped
+  -- among them who asked, where it is open no more
+  pub asker : is_open_at (at_key connection_link link old.connections) ≡ true →
+      is_open_at (at_key connection_link link between.connections) ≡ false → 0 < dropped
   -- the pushes change no client that goes on
   pub same : (before now : Connection) → at_key connection_link link old.connections ≡ Some before →
       at_key connection_link link between.connections ≡ Some now → is_open now ≡ true →
@@ -67,12 +74,13 @@ taken_at state link m (Some seat) = taken_step state link seat.server m
 -- after a line that is typed into a buffer the others are run
 pub record GoesOn (old new : CoreView) (buffer : Handle) (line : List ℕ) : Type 0 where
   pub goes : new.quits ≡ false
-  pub does : Does old new (λ state. input_step state buffer line)
+  pub uncut : new.cuts ≡ old.cuts
+  pub runs : Runs old new (λ state. input_step state buffer line)
 
 -- the lines after it are skipped
 abbrev pub Stops : CoreView → CoreView → Handle → List ℕ → Type 0
 Stops old new buffer line = (lines : List (List ℕ)) → is_there buffer old.world.groups ≡ true →
-    Does old new (λ state. lines_step state buffer (line ∷ lines))
+    Runs old new (λ state. lines_step state buffer (line ∷ lines))
 
 -- texts may be judged as patterns, and nothing else becomes another one
 pub record Judges (old new : CoreView) : Type 0 where
@@ -82,5 +90,5 @@ pub record Judges (old new : CoreView) : Type 0 where
 -- this is what something comes to in the state that the core meant, whatever is thought of texts
 -- that were not judged
 abbrev pub Values : {X : Type 0} → CoreView → CoreView → X → (State → X) → Type 0
-Values old new value of = (told : Beside) → Agrees told.oracle new.verdicts →
-    value ≡ of (state_of old told)
+Values old new value of = (told : Rest) → Agrees told.oracle new.verdicts →
+    value ≡ of (state_with old told)

@@ -1,5 +1,6 @@
 pub mod BoardSteps
 pub mod Changing
+pub mod Contained
 pub mod Evaluated
 pub mod EvaluatedSeen
 pub mod Events
@@ -13,6 +14,7 @@ pub mod CoreView
 pub mod ServersKept
 pub mod ServerSteps
 pub mod ServerTyped
+pub mod Starts
 pub mod State
 pub mod Step
 pub mod Texts

@@ -164,7 +164,7 @@ pub record KeepsClients (old new : CoreView) : Type 0 where
   pub servers : ServersKeep old.servers new.servers
   pub verdicts : Stay old.verdicts new.verdicts
 
--- nothing but the buffers, the touches of their nicklists, clients, and the count of want of memory
+-- nothing but the buffers, the touches of their nicklists, clients, and the counts of want of memory
 -- becomes another one
 abbrev pub ChangesBuffers : CoreView → CoreView → Type 0
 ChangesBuffers old new = new ≡ record old {
@@ -172,6 +172,7 @@ ChangesBuffers old new = new ≡ record old {
   pending = new.pending;
   connections = new.connections;
   starved = new.starved;
+  cuts = new.cuts;
 }
 
 -- nor does anything but these and servers
@@ -182,6 +183,7 @@ ChangesServers old new = new ≡ record old {
   connections = new.connections;
   servers = new.servers;
   starved = new.starved;
+  cuts = new.cuts;
 }
 
 -- The step of the state that the core meant where these rows were told is done, unless some growth
@@ -199,13 +201,6 @@ pub record FollowsUnlessStarved (told : Beside) (old new : CoreView) (stepped : 
 -- refused
 abbrev pub Does : CoreView → CoreView → (State → Stepped) → Type 0
 Does old new step = (told : Beside) → FollowsUnlessStarved told old new (step (state_of old told))
-
--- memory was refused, and that was counted
-pub record RanOutOfMemory (old new : CoreView) : Type 0 where
-  pub keeps : KeepsClients old new
-  pub causes : Distinct (links_of old) → (link : ℕ) →
-      StaysOrStarves (leaving_on link old.connections) (leaving_on link new.connections)
-  pub counted : old.starved < 2 ^ 64 - 1 → old.starved < new.starved
 
 -- a refused arrival has no connection
 abbrev pub refusal : ℕ → Option Cause → List Act

@@ -28,13 +28,14 @@ use Rattle.wc_board.specs.Told.{is_close}
 use Rattle.wc_servers.specs.Outs.{Out, SendsLine, Parts, quit_outs}
 use Rattle.wc_servers.specs.Seats.{ServerSeat, server_link, server_named, ended}
 use Rattle.wc_servers.specs.Texts.{is_change_text}
-use Rattle.wc_core.specs.Changing.{no_step, then_does, change_step, change_step_if, refusal_step}
+use Rattle.wc_core.specs.Changing.{no_step, put_step, reach_step, then_does, change_step}
+use Rattle.wc_core.specs.Changing.{change_step_if, refusal_step}
 use Rattle.wc_core.specs.Resolved.{change_of, null, refusal_text}
 use Rattle.wc_core.specs.State.{State, Serves, Quits, Stepped}
 
 -- something is to go out for a server
 abbrev pub out_step : State → Out → Stepped
-out_step state out = record { state = state; acts = Serves out ∷ [] }
+out_step state out = record { state = state; acts = Serves out ∷ []; way = [] }
 
 -- ---- acts, one by one
 
@@ -91,10 +92,9 @@ acts_step tells link state (a ∷ acts) =
 
 -- a server is leaving: its link is to be closed, and what follows of its loss is done
 abbrev pub leave_server : ℕ → Cause → State → Stepped
-leave_server link cause state = record {
-  state = record state { servers = without server_link link state.servers };
-  acts = Serves (Parts link cause) ∷ [];
-}
+leave_server link cause state = reach_step
+    (record state { servers = without server_link link state.servers })
+    (Serves (Parts link cause) ∷ [])
 
 abbrev pub server_loss_step : ℕ → Cause → State → Option ServerSeat → Stepped
 server_loss_step link cause state None = no_step state
@@ -127,8 +127,9 @@ with_server state link server = record state {
 }
 
 abbrev pub taken_step : State → ℕ → ServerState → Message → Stepped
-taken_step state link server m = server_acts_step false link
-    (with_server state link (after_server server m)) (acts_of_server state.world.groups server m)
+taken_step state link server m =
+    then_does (put_step (with_server state link (after_server server m)))
+    (λ next. server_acts_step false link next (acts_of_server state.world.groups server m))
 
 abbrev pub message_step : State → ℕ → ServerState → Result Message LineRefused → Stepped
 message_step state link server (Err refused) = no_step state
@@ -142,8 +143,9 @@ server_line_step state link line (Some seat) = message_step state link seat.serv
 
 abbrev pub stands_step : State → ℕ → Option ServerSeat → Stepped
 stands_step state link None = no_step state
-stands_step state link (Some seat) = server_acts_step false link
-    (with_server state link (after_connect seat.server)) (first_acts seat.server)
+stands_step state link (Some seat) =
+    then_does (put_step (with_server state link (after_connect seat.server)))
+    (λ next. server_acts_step false link next (first_acts seat.server))
 
 -- ---- the server of a buffer: the one that its variable names
 
@@ -174,4 +176,5 @@ abbrev pub quit_step : State → Stepped
 quit_step state = record {
   state = state;
   acts = map Serves (flat_map quit_outs state.servers) ++ Quits ∷ [];
+  way = [];
 }

@@ -24,7 +24,7 @@ use Rattle.wc_irc_words.specs.Typed.{ServerCommand, AddsServer, DeletesServer, C
 use Rattle.wc_irc_words.specs.Typed.{Disconnects, asked_of}
 use Rattle.wc_servers.specs.Outs.{Connects}
 use Rattle.wc_servers.specs.Seats.{ServerSeat, server_named}
-use Rattle.wc_core.specs.Changing.{no_step, then_does, refusal_step}
+use Rattle.wc_core.specs.Changing.{no_step, put_step, reach_step, then_does, refusal_step}
 use Rattle.wc_core.specs.Resolved.{change_of, null, option_text}
 use Rattle.wc_core.specs.ServerSteps.{say_step, try_step, server_acts_step, server_of}
 use Rattle.wc_core.specs.State.{State, Serves, Stepped}
@@ -40,9 +40,10 @@ HasTextValue setting = IsUtf8 setting.value
 
 -- an option gets a value, and then others do; where it is refused they do not
 abbrev pub settings_if : State → Pair → (State → Stepped) → Option SetRefused → Stepped
-settings_if state setting others None = others (record state {
+settings_if state setting others None = then_does (put_step (record state {
   options = with_value state.options setting.name setting.value;
-})
+}))
+    others
 settings_if state setting others (Some reason) =
     say_step state (option_text setting.name reason)
 
@@ -53,7 +54,7 @@ settings_step state (setting ∷ settings) =
     (refusal_of state.options setting.name setting.value)
 
 abbrev pub delete_step : State → List ℕ → Option (List ℕ) → Stepped
-delete_step state name None = no_step (record state {
+delete_step state name None = put_step (record state {
   options = record state.options { servers = without name state.options.servers };
 })
 delete_step state name (Some text) = say_step state text
@@ -82,13 +83,11 @@ open_step state s = open_new_step state (server_spec s)
 
 -- a connection is begun, whose link has the next number
 abbrev pub seat_step : State → ServerState → Stepped
-seat_step state s = record {
-  state = record state {
-    servers = state.servers ++ record { link = state.used + 1; server = s } ∷ [];
-    used = state.used + 1;
-  };
-  acts = Serves (Connects (state.used + 1) s.address s.name) ∷ [];
-}
+seat_step state s = reach_step (record state {
+  servers = state.servers ++ record { link = state.used + 1; server = s } ∷ [];
+  used = state.used + 1;
+})
+    (Serves (Connects (state.used + 1) s.address s.name) ∷ [])
 
 abbrev pub begin_step : State → Result ServerState ServerRefused → Stepped
 begin_step state (Err refused) = no_step state

@@ -65,9 +65,11 @@ abbrev pub has_end : List Act → Bool
 has_end [] = false
 has_end (act ∷ acts) = is_end act || has_end acts
 
+-- what a step comes to, and the states that it comes through, one after each change, up to the last
 pub record Stepped : Type 0 where
   pub state : State
   pub acts : List Act
+  pub way : List State
 
 -- no client, and the core buffer alone, whose lines are bounded, before these commands are run
 abbrev pub first_state : Oracle → OptionsValue → ℕ → List (List ℕ) → State

@@ -1,5 +1,5 @@
 -- What the core does at each event.
-use Rattle.std.specs.Prelude.{ℕ, zero, suc, Bool, not, max, ◌&&◌, List, [], ◌∷◌, ◌++◌, length}
+use Rattle.std.specs.Prelude.{ℕ, zero, suc, not, max, ◌&&◌, List, [], ◌∷◌, ◌++◌, length}
 use Rattle.std.specs.Prelude.{nat_lt, if◌then◌else◌, Option, Some, None}
 use Rattle.std.specs.Str.{is_utf8}
 use Rattle.wc_text.specs.declared.names.Handle.{Handle}
@@ -26,7 +26,8 @@ use Rattle.wc_core.specs.Evaluated.{value_at, holds_at, answer_text, printed_val
 use Rattle.wc_core.specs.declared.typed_eval.EvalUse.{EvalUse}
 use Rattle.wc_core.specs.declared.typed_eval.EvalUse.TheVariants as eval
 use Rattle.wc_core.specs.Typed.{TypedCommand, Others, typed_line, lines_of_text, evaluation_of}
-pub use Rattle.wc_core.specs.Changing.{client_link, core_buffer, no_step, then_does, sends, told_to}
+pub use Rattle.wc_core.specs.Changing.{client_link, core_buffer, no_step, put_step, reach_step}
+pub use Rattle.wc_core.specs.Changing.{then_does, sends, told_to}
 pub use Rattle.wc_core.specs.Changing.{tell_all_step, change_step, change_step_if, refusal_step}
 pub use Rattle.wc_core.specs.Changing.{ask_step_if, ask_step, pushed_to, push_at, pushes_of}
 pub use Rattle.wc_core.specs.Changing.{push_step, set_step_if, set_step, unset_step_if, unset_step}
@@ -129,11 +130,9 @@ lines_step state buffer (line ∷ lines) =
 -- ---- clients
 
 abbrev pub leave_step : State → ℕ → Cause → Stepped
-leave_step state link cause = record {
-  state =
-      record state { clients = without client_link link state.clients };
-  acts = Closes link cause ∷ [];
-}
+leave_step state link cause = reach_step
+    (record state { clients = without client_link link state.clients })
+    (Closes link cause ∷ [])
 
 -- what an answer asks of the core, after its messages
 abbrev pub outcome_step : State → ℕ → Outcome → Stepped
@@ -145,13 +144,10 @@ outcome_step state link outcome.NoMemory = no_step state
 
 abbrev pub answer_step : State → ℕ → Answer → Stepped
 answer_step state link answer =
-    then_does (record {
-      state = record state {
-        clients = put_at client_link link answer.client
-            state.clients;
-      };
-      acts = sends link answer.messages;
+    then_does (reach_step (record state {
+      clients = put_at client_link link answer.client state.clients;
     })
+    (sends link answer.messages))
     (λ next. outcome_step next link answer.outcome)
 
 abbrev pub reply_step : State → Client → Request → Stepped
@@ -206,15 +202,13 @@ start_step state commands =
 abbrev pub arrival_step : State → ℕ → List ℕ → Stepped
 arrival_step state link nonce =
     if nat_lt (length state.clients) (client_limit state.options)
-    then no_step (record state {
+    then put_step (record state {
       clients = state.clients ++ new_client state.options (record { 0 = link })
           nonce ∷ [];
       used = max state.used link;
     })
-    else record {
-      state = record state { used = max state.used link };
-      acts = Closes link Surplus ∷ [];
-    }
+    else reach_step (record state { used = max state.used link })
+    (Closes link Surplus ∷ [])
 
 -- what the core does at an event
 abbrev pub step : State → Event → Stepped

@@ -2,7 +2,8 @@
 
 ghost use Rattle.std.specs.Prelude.{◌≡◌, ◌≢◌, true, false};
 ghost use Rattle.wc_core.specs.Resolved.{change_of, null};
-ghost use Rattle.wc_core.specs.Served.{Does, ChangesBuffers, ChangesServers};
+ghost use Rattle.wc_core.specs.Contained.{Runs};
+ghost use Rattle.wc_core.specs.Served.{ChangesBuffers, ChangesServers};
 ghost use Rattle.wc_core.specs.ServerSteps.{dated, say_step, told_step_if, try_step, on_step};
 ghost use Rattle.wc_core.specs.ServerSteps.{send_step, act_step};
 ghost use Rattle.wc_core.specs.ServerSteps.{acts_step, leave_in, loss_step_if, server_acts_step};
@@ -58,12 +59,12 @@ impl Core {
     /// ask for it. Refusals are told where the acts follow of a command. Where memory is refused
     /// the others are skipped.
     pub(crate) fn run_server_acts(&mut self, link: LinkId, acts: Items<Act>, tells: bool)
-        ensures { Does self.old self.new (λ state. server_acts_step tells link.0 state acts) }
+        ensures { Runs self.old self.new (λ state. server_acts_step tells link.0 state acts) }
     {
         let cause = leave_in(acts.as_slice());
-        let starved = self.starved;
+        let cuts = self.cuts;
         self.run_acts(link, acts, tells);
-        if self.starved != starved {
+        if self.cuts != cuts {
             return;
         }
         self.lose_if(link, cause);
@@ -71,7 +72,7 @@ impl Core {
 
     /// Has the server of a link leave, where there is a cause.
     fn lose_if(&mut self, link: LinkId, cause: Option<Cause>)
-        ensures { Does self.old self.new (λ state. loss_step_if link.0 state cause) }
+        ensures { Runs self.old self.new (λ state. loss_step_if link.0 state cause) }
     {
         if let Some(cause) = cause {
             self.lose_server(link, cause);
@@ -80,7 +81,7 @@ impl Core {
 
     /// Runs acts one by one. Where memory is refused the others are skipped.
     pub(crate) fn run_acts(&mut self, link: LinkId, acts: Items<Act>, tells: bool)
-        ensures does { Does self.old self.new (λ state. acts_step tells link.0 state acts) }
+        ensures does { Runs self.old self.new (λ state. acts_step tells link.0 state acts) }
         ensures stays { ChangesServers self.old self.new }
         ensures shut { is_open_at (at_key seat_link link.0 self.old.servers.seats) ≡ false →
             self.new.servers ≡ self.old.servers }
@@ -89,7 +90,7 @@ impl Core {
     }
 
     fn run_each(&mut self, link: LinkId, acts: Vec<Act>, tells: bool)
-        ensures does { Does self.old self.new
+        ensures does { Runs self.old self.new
             (λ state. acts_step tells link.0 state acts.items) }
         ensures stays { ChangesServers self.old self.new }
         ensures shut { is_open_at (at_key seat_link link.0 self.old.servers.seats) ≡ false →
@@ -102,21 +103,22 @@ impl Core {
         }
     }
 
-    /// Runs an act. It answers whether memory was refused.
+    /// Runs an act. It answers whether it was cut short.
     fn run_one(&mut self, link: LinkId, act: Act, tells: bool) -> bool
-        ensures does { Does self.old self.new (λ state. act_step tells link.0 state act) }
-        ensures starved { result ≡ true → self.new.starved ≢ self.old.starved }
+        ensures does { Runs self.old self.new (λ state. act_step tells link.0 state act) }
+        ensures cut { result ≡ true → self.new.cuts ≢ self.old.cuts }
+        ensures uncut { result ≡ false → self.new.cuts ≡ self.old.cuts }
         ensures stays { ChangesServers self.old self.new }
         ensures shut { is_open_at (at_key seat_link link.0 self.old.servers.seats) ≡ false →
             self.new.servers ≡ self.old.servers }
     {
-        let starved = self.starved;
+        let cuts = self.cuts;
         self.run_act(link, act, tells);
-        self.starved != starved
+        self.cuts != cuts
     }
 
     fn run_act(&mut self, link: LinkId, act: Act, tells: bool)
-        ensures does { Does self.old self.new (λ state. act_step tells link.0 state act) }
+        ensures does { Runs self.old self.new (λ state. act_step tells link.0 state act) }
         ensures stays { ChangesServers self.old self.new }
         ensures shut { is_open_at (at_key seat_link link.0 self.old.servers.seats) ≡ false →
             self.new.servers ≡ self.old.servers }
@@ -135,7 +137,7 @@ impl Core {
 
     /// Opens a buffer.
     pub(crate) fn open(&mut self, spec: BufferSpec, tells: bool)
-        ensures does { Does self.old self.new
+        ensures does { Runs self.old self.new
             (λ state. try_step tells state (change_of null (what.Add spec))) }
         ensures stays { ChangesBuffers self.old self.new }
     {
@@ -148,7 +150,7 @@ impl Core {
 
     /// Changes the buffer of this full name, where it is there.
     fn change_named(&mut self, full_name: &Text, what: What, tells: bool)
-        ensures does { Does self.old self.new
+        ensures does { Runs self.old self.new
             (λ state. on_step tells state what (handle_of_name full_name.now state.world.groups)) }
         ensures stays { ChangesBuffers self.old self.new }
     {
@@ -161,7 +163,7 @@ impl Core {
 
     /// Makes a change whose texts are UTF-8. A refusal is told or passed over.
     fn try_change(&mut self, change: Change, tells: bool)
-        ensures does { Does self.old self.new (λ state. try_step tells state change) }
+        ensures does { Runs self.old self.new (λ state. try_step tells state change) }
         ensures stays { ChangesBuffers self.old self.new }
     {
         if !is_change_text(&change.what) {
@@ -178,7 +180,7 @@ impl Core {
     /// Makes a change, or tells why it is refused.
     fn tell_change(&mut self, change: Change)
         requires { IsChangeText change.what }
-        ensures does { Does self.old self.new
+        ensures does { Runs self.old self.new
             (λ state. told_step_if state change (refusal state.world change)) }
         ensures stays { ChangesBuffers self.old self.new }
     {
@@ -193,7 +195,7 @@ impl Core {
 
     /// Tells a refusal, where it is UTF-8.
     pub(crate) fn say(&mut self, text: Text)
-        ensures does { Does self.old self.new (λ state. say_step state text) }
+        ensures does { Runs self.old self.new (λ state. say_step state text) }
         ensures stays { ChangesBuffers self.old self.new }
     {
         if !is_utf8(text.as_slice()) {
@@ -205,7 +207,7 @@ impl Core {
     /// Makes a change, or passes it over where it is refused.
     fn make_change(&mut self, change: Change)
         requires { IsChangeText change.what }
-        ensures does { Does self.old self.new
+        ensures does { Runs self.old self.new
             (λ state. change_step_if state change (refusal state.world change)) }
         ensures stays { ChangesBuffers self.old self.new }
     {
@@ -215,7 +217,7 @@ impl Core {
     /// Puts a line with its end after the unsent bytes of the server of a link, where it is not
     /// leaving.
     fn send(&mut self, link: LinkId, line: &Text)
-        ensures does { Does self.old self.new (λ state. send_step state link.0 line.now
+        ensures does { Runs self.old self.new (λ state. send_step state link.0 line.now
             (at_key server_link link.0 state.servers)) }
         ensures stays { ChangesServers self.old self.new }
         ensures shut { is_open_at (at_key seat_link link.0 self.old.servers.seats) ≡ false →

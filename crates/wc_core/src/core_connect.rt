@@ -3,7 +3,8 @@
 ghost use Rattle.std.specs.Prelude.{◌≡◌, ◌<◌, ◌^◌, ◌++◌, ◌∷◌, [], false, None, Ok, IfOk, OnOk};
 ghost use Rattle.std.specs.Prelude.{codes};
 ghost use Rattle.wc_buffers.specs.Vars.{pair};
-ghost use Rattle.wc_core.specs.Served.{Does, ChangesBuffers};
+ghost use Rattle.wc_core.specs.Contained.{Runs};
+ghost use Rattle.wc_core.specs.Served.{ChangesBuffers};
 ghost use Rattle.wc_core.specs.ServerTyped.{connect_step, connect_step_if, connect_all_step};
 ghost use Rattle.wc_core.specs.ServerTyped.{connect_each_step, connect_own_step, connects_itself};
 ghost use Rattle.wc_core.specs.ServerTyped.{open_new_step, open_step, seat_step, begin_step};
@@ -80,7 +81,7 @@ fn server_spec(alloc: Global, server: &Server) -> Result<BufferSpec, NoMemory>
 impl Core {
     /// Connects the servers whose option `autoconnect` is on, unless that was held back.
     pub(crate) fn connect_all(&mut self)
-        ensures does { Does self.old self.new (λ state. connect_all_step state) }
+        ensures does { Runs self.old self.new (λ state. connect_all_step state) }
         ensures idle { self.old.connects ≡ false → self.new ≡ self.old }
     {
         if !self.connects {
@@ -92,17 +93,22 @@ impl Core {
         }
     }
 
+    /// Connects those of these servers. Where memory is refused the others are skipped.
     fn connect_each(&mut self, names: &[Text])
-        ensures { Does self.old self.new (λ state. connect_each_step state names.now) }
+        ensures { Runs self.old self.new (λ state. connect_each_step state names.now) }
     {
         for name in names {
+            let cuts = self.cuts;
             self.connect_own(name);
+            if self.cuts != cuts {
+                return;
+            }
         }
     }
 
     /// Connects a server where its option `autoconnect` is on.
     fn connect_own(&mut self, name: &Text)
-        ensures { Does self.old self.new (λ state. connect_own_step state name.now) }
+        ensures { Runs self.old self.new (λ state. connect_own_step state name.now) }
     {
         match connects_itself(self.alloc, &self.options, name.as_slice()) {
             Ok(true) => self.connect(name.as_slice()),
@@ -113,7 +119,7 @@ impl Core {
 
     /// Connects a server, or tells why it is refused.
     pub(crate) fn connect(&mut self, name: &[u8])
-        ensures { Does self.old self.new (λ state. connect_step state name.now) }
+        ensures { Runs self.old self.new (λ state. connect_step state name.now) }
     {
         let is_linked = self.servers.named(name).is_some();
         match connect_refusal(self.alloc, &self.options, is_linked, name) {
@@ -125,7 +131,7 @@ impl Core {
 
     /// Connects a server that is refused for no reason of its own.
     fn connect_free(&mut self, name: &[u8])
-        ensures { Does self.old self.new (λ state. connect_step_if state name.now None) }
+        ensures { Runs self.old self.new (λ state. connect_step_if state name.now None) }
     {
         if self.servers.used() >= LAST_LINK {
             self.say_bytes(b"no handle left");
@@ -136,24 +142,25 @@ impl Core {
 
     fn begin(&mut self, name: &[u8])
         requires { self.old.servers.used < 2 ^ 62 }
-        ensures { Does self.old self.new
+        ensures { Runs self.old self.new
             (λ state. begin_step state (start_of state.options name.now)) }
     {
         match Server::new(self.alloc, name, &self.options) {
             Ok(server) => self.begin_with(server),
             Err(ServerRefused::NoMemory) => self.starve(),
-            Err(_) => {}
+            Err(ServerRefused::TlsOn) => {}
+            Err(ServerRefused::BadAddress) => {}
         }
     }
 
     /// Opens the buffer of a server and begins its connection.
     fn begin_with(&mut self, server: Server)
         requires { self.old.servers.used < 2 ^ 62 }
-        ensures { Does self.old self.new (λ state. begin_step state (Ok server)) }
+        ensures { Runs self.old self.new (λ state. begin_step state (Ok server)) }
     {
-        let starved = self.starved;
+        let cuts = self.cuts;
         self.open_server(&server);
-        if self.starved != starved {
+        if self.cuts != cuts {
             return;
         }
         self.seat(server);
@@ -161,7 +168,7 @@ impl Core {
 
     /// Opens the buffer of a server, where it is not there.
     fn open_server(&mut self, server: &Server)
-        ensures does { Does self.old self.new (λ state. open_step state server.now) }
+        ensures does { Runs self.old self.new (λ state. open_step state server.now) }
         ensures stays { ChangesBuffers self.old self.new }
     {
         match server_spec(self.alloc, server) {
@@ -172,7 +179,7 @@ impl Core {
 
     /// Opens a buffer, where none has its full name.
     fn open_new(&mut self, spec: BufferSpec)
-        ensures does { Does self.old self.new (λ state. open_new_step state spec) }
+        ensures does { Runs self.old self.new (λ state. open_new_step state spec) }
         ensures stays { ChangesBuffers self.old self.new }
     {
         if self
@@ -190,7 +197,7 @@ impl Core {
     /// Begins a connection.
     fn seat(&mut self, server: Server)
         requires { self.old.servers.used < 2 ^ 62 }
-        ensures { Does self.old self.new (λ state. seat_step state server) }
+        ensures { Runs self.old self.new (λ state. seat_step state server) }
     {
         let _seats = self.servers.seats();
         match self.servers.begin(server) {
@@ -201,7 +208,7 @@ impl Core {
 
     /// Tells a refusal of these bytes, where they are UTF-8.
     pub(crate) fn say_bytes(&mut self, text: &[u8])
-        ensures { Does self.old self.new (λ state. say_step state text.now) }
+        ensures { Runs self.old self.new (λ state. say_step state text.now) }
     {
         match Text::from_slice(self.alloc, text) {
             Ok(text) => self.say(text),

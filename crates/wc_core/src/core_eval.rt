@@ -8,7 +8,7 @@ ghost use Rattle.wc_core.specs.Inputs.{Judges, Values};
 ghost use Rattle.wc_eval.specs.Meaning.{text_value, condition_holds};
 ghost use Rattle.wc_eval.specs.Names.{AreTexts};
 ghost use Rattle.wc_eval.specs.Verdicts.{Oracle, Agrees};
-ghost use Rattle.wc_core.specs.Served.{Does};
+ghost use Rattle.wc_core.specs.Contained.{Runs};
 ghost use Rattle.wc_core.specs.Step.{ask_step, plain_step, evaluation_at, input_at, run_value};
 ghost use Rattle.wc_core.specs.Typed.{typed_line, evaluation_of};
 
@@ -33,7 +33,7 @@ impl Core {
     #[cycle(input)]
     pub(crate) fn input_at(&mut self, levels: u32, buffer: Handle, line: &[u8])
         requires { IsUtf8 line.now }
-        ensures { Does self.old self.new (λ state. input_at levels state buffer line.now) }
+        ensures { Runs self.old self.new (λ state. input_at levels state buffer line.now) }
     {
         match evaluation_in(line) {
             Some((usage, text)) => self.evaluate(levels, buffer, usage, text),
@@ -45,7 +45,7 @@ impl Core {
     #[cycle(input)]
     fn evaluate(&mut self, levels: u32, buffer: Handle, usage: EvalUse, text: &[u8])
         requires { IsUtf8 text.now }
-        ensures { Does self.old self.new
+        ensures { Runs self.old self.new
             (λ state. evaluation_at levels state buffer usage text.now) }
     {
         if levels == 0 {
@@ -62,7 +62,7 @@ impl Core {
     #[cycle(input)]
     fn run_value(&mut self, levels: u32, buffer: Handle, text: &[u8])
         requires { IsUtf8 text.now }
-        ensures { Does self.old self.new
+        ensures { Runs self.old self.new
             (λ state. run_value (input_at levels) state buffer (value_at state buffer text.now)) }
     {
         match self.value_of(buffer, text) {
@@ -74,7 +74,7 @@ impl Core {
     /// Does what a line asks for that evaluates nothing.
     fn plain_input(&mut self, buffer: Handle, line: &[u8])
         requires { IsUtf8 line.now }
-        ensures { Does self.old self.new (λ state. plain_step state buffer line.now) }
+        ensures { Runs self.old self.new (λ state. plain_step state buffer line.now) }
     {
         match other_in(line) {
             Some((front, name)) => self.serve_line(buffer, line, front, name),
@@ -85,7 +85,7 @@ impl Core {
     /// Prints the value of a text on the core buffer.
     fn print_value(&mut self, buffer: Handle, text: &[u8])
         requires { IsUtf8 text.now }
-        ensures { Does self.old self.new (λ state. ask_step state
+        ensures { Runs self.old self.new (λ state. ask_step state
             (printed_value state.moment (value_at state buffer text.now))) }
     {
         match self.value_of(buffer, text) {
@@ -97,7 +97,7 @@ impl Core {
     /// Prints on the core buffer whether a condition holds.
     fn print_answer(&mut self, buffer: Handle, text: &[u8])
         requires { IsUtf8 text.now }
-        ensures { Does self.old self.new (λ state. ask_step state
+        ensures { Runs self.old self.new (λ state. ask_step state
             (printed_value state.moment (answer_text (holds_at state buffer text.now)))) }
     {
         match self.holds(buffer, text) {
@@ -109,7 +109,7 @@ impl Core {
     /// Prints what a text or a condition came to.
     fn print_evaluated(&mut self, value: &[u8])
         requires { IsUtf8 value.now }
-        ensures { Does self.old self.new
+        ensures { Runs self.old self.new
             (λ state. ask_step state (printed_value state.moment value.now)) }
     {
         match printed_value(self.alloc, self.moment, value) {

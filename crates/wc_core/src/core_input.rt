@@ -7,7 +7,8 @@ ghost use Rattle.wc_world.specs.Texts.{IsChangeText};
 ghost use Rattle.wc_core.specs.Typed.{typed_line, lines_of_text};
 ghost use Rattle.wc_core.specs.Step.{refusal_step, ask_step, typed_step, input_step, lines_step};
 ghost use Rattle.wc_core.specs.Texts.{WhatUtf8};
-ghost use Rattle.wc_core.specs.Served.{Does, ChangesBuffers};
+ghost use Rattle.wc_core.specs.Contained.{Runs};
+ghost use Rattle.wc_core.specs.Served.{ChangesBuffers};
 ghost use Rattle.wc_core.specs.Inputs.{MakesChange, RefusesChange, GoesOn, Stops};
 
 use crate::core_state::Core;
@@ -26,7 +27,7 @@ impl Core {
     /// before.
     pub(crate) fn run_input(&mut self, buffer: Handle, text: &[u8])
         requires { IsUtf8 text.now }
-        ensures { Does self.old self.new
+        ensures { Runs self.old self.new
             (λ state. lines_step state buffer (lines_of_text text.now)) }
     {
         let quit = mem::replace(&mut self.quits, false);
@@ -35,11 +36,11 @@ impl Core {
     }
 
     /// Runs a text that is typed into a buffer, line by line. After a `/quit` nothing is run, nor
-    /// once the buffer is closed, nor where memory was refused.
+    /// once the buffer is closed, nor after a line that was cut short.
     pub(crate) fn run_lines(&mut self, buffer: Handle, text: &[u8])
         requires text { IsUtf8 text.now }
         requires going { self.old.quits ≡ false }
-        ensures { Does self.old self.new
+        ensures { Runs self.old self.new
             (λ state. lines_step state buffer (lines_of_text text.now)) }
     {
         let mut left = Some(text);
@@ -72,18 +73,18 @@ impl Core {
         ensures goes_on { result ≡ false → GoesOn self.old self.new buffer line.now }
         ensures stops { result ≡ true → Stops self.old self.new buffer line.now }
     {
-        let starved = self.starved;
+        let cuts = self.cuts;
         self.input(buffer, line);
         if self.quits {
             return true;
         }
-        self.starved != starved
+        self.cuts != cuts
     }
 
     /// Does what a line asks for that is typed into a buffer.
     fn input(&mut self, buffer: Handle, line: &[u8])
         requires { IsUtf8 line.now }
-        ensures { Does self.old self.new (λ state. input_step state buffer line.now) }
+        ensures { Runs self.old self.new (λ state. input_step state buffer line.now) }
     {
         self.input_at(MOST_EVALS, buffer, line);
     }
@@ -91,7 +92,7 @@ impl Core {
     /// Does what a line asks for that is typed into a buffer, by what the core knows by itself.
     pub(crate) fn do_line(&mut self, buffer: Handle, line: &[u8])
         requires { IsUtf8 line.now }
-        ensures { Does self.old self.new
+        ensures { Runs self.old self.new
             (λ state. typed_step state buffer (typed_line line.now)) }
     {
         let _texts = self.board.world().buffers().groups();
@@ -111,7 +112,7 @@ impl Core {
     /// Makes a change, or tells why it is refused.
     pub(crate) fn ask_change(&mut self, change: Change)
         requires { WhatUtf8 change.what }
-        ensures does { Does self.old self.new (λ state. ask_step state change) }
+        ensures does { Runs self.old self.new (λ state. ask_step state change) }
         ensures stays { ChangesBuffers self.old self.new }
     {
         let Some(reason) = self.change(change) else {
@@ -126,7 +127,7 @@ impl Core {
     /// Tells a refusal by a line of the core buffer, where there are handles for it.
     pub(crate) fn tell_refusal(&mut self, text: Text)
         requires { IsUtf8 text }
-        ensures does { Does self.old self.new (λ state. refusal_step state text) }
+        ensures does { Runs self.old self.new (λ state. refusal_step state text) }
         ensures stays { ChangesBuffers self.old self.new }
     {
         match told_refusal(self.alloc, self.moment, text) {
@@ -146,12 +147,11 @@ impl Core {
         ensures stays { ChangesBuffers self.old self.new }
     {
         let _before = self.board.world();
+        let before = self.board.open_count();
         match self.board.tell(change) {
-            Ok(told) => {
+            Ok(_told) => {
                 let _after = self.board.world().buffers().groups();
-                if !told.to_all {
-                    self.starve();
-                }
+                self.count_dropped(before);
                 None
             }
             Err(ChangeRefused::NoMemory) => {

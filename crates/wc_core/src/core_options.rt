@@ -3,7 +3,7 @@
 ghost use Rattle.std.specs.Prelude.{◌≡◌, ◌≢◌};
 ghost use Rattle.std.specs.Str.{IsUtf8};
 ghost use Rattle.wc_core.specs.Resolved.{option_text};
-ghost use Rattle.wc_core.specs.Served.{Does};
+ghost use Rattle.wc_core.specs.Contained.{Runs};
 ghost use Rattle.wc_core.specs.State.{State, Stepped};
 ghost use Rattle.wc_core.specs.Step.{set_step, unset_step, save_step, refusal_step};
 
@@ -17,7 +17,7 @@ impl Core {
     pub(crate) fn set_option(&mut self, pair: &Pair)
         requires name { IsUtf8 pair.now.name }
         requires value { IsUtf8 pair.now.value }
-        ensures { Does self.old self.new
+        ensures { Runs self.old self.new
             (λ state. set_step state pair.now.name pair.now.value) }
     {
         match self.options.set(self.alloc, &pair.name, &pair.value) {
@@ -29,7 +29,7 @@ impl Core {
     /// Gives an option its default, or tells that there is no such option.
     pub(crate) fn unset_option(&mut self, name: &Text)
         requires { IsUtf8 name.now }
-        ensures { Does self.old self.new (λ state. unset_step state name.now) }
+        ensures { Runs self.old self.new (λ state. unset_step state name.now) }
     {
         match self.options.unset(self.alloc, name) {
             Ok(()) => {}
@@ -39,7 +39,7 @@ impl Core {
 
     /// Saves the options: the loop is to write their text.
     pub(crate) fn save(&mut self)
-        ensures { Does self.old self.new (λ state. save_step state) }
+        ensures { Runs self.old self.new (λ state. save_step state) }
     {
         match self.options.write_config(self.alloc) {
             Ok(text) => {
@@ -53,10 +53,10 @@ impl Core {
     /// Tells why an option does not get a value, and counts want of memory.
     fn refuse_option(&mut self, name: &Text, refused: &SetRefused)
         requires { IsUtf8 (option_text name.now refused.now) }
-        ensures told { refused.now ≢ SetRefused.NoMemory → Does self.old self.new
+        ensures told { refused.now ≢ SetRefused.NoMemory → Runs self.old self.new
             (λ state. refusal_step state (option_text name.now refused.now)) }
         ensures starves { refused.now ≡ SetRefused.NoMemory → (step : State → Stepped) →
-            Does self.old self.new step }
+            Runs self.old self.new step }
     {
         match refused {
             SetRefused::NoMemory => self.starve(),
@@ -67,7 +67,7 @@ impl Core {
     /// Tells why an option does not get a value.
     fn tell_option(&mut self, name: &Text, refused: &SetRefused)
         requires { IsUtf8 (option_text name.now refused.now) }
-        ensures { Does self.old self.new
+        ensures { Runs self.old self.new
             (λ state. refusal_step state (option_text name.now refused.now)) }
     {
         match option_text(self.alloc, name.as_slice(), refused) {

@@ -6,6 +6,8 @@ ghost use Rattle.wc_ircmsg.specs.Utf8.{MessageIsUtf8};
 ghost use Rattle.wc_core.specs.Inputs.{taken_at};
 ghost use Rattle.wc_outside.specs.Keyed.{at_key};
 ghost use Rattle.wc_core.specs.Events.{Stands};
+ghost use Rattle.wc_core.specs.BoardSteps.{board_of, StepsBy};
+ghost use Rattle.wc_core.specs.Contained.{Runs, Contains, Counts};
 ghost use Rattle.wc_core.specs.Served.{Does, ChangesServers, plain_beside, state_of};
 ghost use Rattle.wc_core.specs.ServersKept.{LeavesAt};
 ghost use Rattle.wc_core.specs.ServerSteps.{server_line_step, server_loss_step, before_step};
@@ -23,7 +25,10 @@ use wc_text::{Cause, Handle, LinkId, NoMemory};
 impl Core {
     /// Serves that the link of a server stands, which then is told who comes.
     pub fn link_stands(&mut self, link: LinkId)
-        ensures { Does self.old self.new (λ state. step state (Stands link.0)) }
+        ensures does { Does self.old self.new (λ state. step state (Stands link.0)) }
+        ensures contained { Contains self.old self.new (λ state. step state (Stands link.0)) }
+        ensures counted { Counts 0 self.old self.new }
+        ensures drops { StepsBy None (board_of self.old) (board_of self.new) }
     {
         let _seats = self.servers.seats();
         match self.servers.stand(link) {
@@ -34,7 +39,7 @@ impl Core {
 
     /// Serves a line of a server, where it is a message. What is none is passed over.
     pub(crate) fn server_line(&mut self, link: LinkId, line: &[u8])
-        ensures { Does self.old self.new (λ state. server_line_step state link.0 line.now
+        ensures { Runs self.old self.new (λ state. server_line_step state link.0 line.now
             (at_key server_link link.0 state.servers)) }
     {
         let _seats = self.servers.seats();
@@ -51,7 +56,7 @@ impl Core {
 
     fn take_message(&mut self, link: LinkId, message: &Message)
         requires { MessageIsUtf8 message.now }
-        ensures { Does self.old self.new (λ state. taken_at state link.0 message.now
+        ensures { Runs self.old self.new (λ state. taken_at state link.0 message.now
             (at_key server_link link.0 state.servers)) }
     {
         let _seats = self.servers.seats();
@@ -65,7 +70,7 @@ impl Core {
     /// Has the server of a link leave for this cause, where it is not leaving, and does what follows
     /// of its loss.
     pub(crate) fn lose_server(&mut self, link: LinkId, cause: Cause)
-        ensures does { Does self.old self.new (λ state. server_loss_step link.0 cause state
+        ensures does { Runs self.old self.new (λ state. server_loss_step link.0 cause state
             (at_key server_link link.0 state.servers)) }
         ensures stays { ChangesServers self.old self.new }
         ensures leaves { LeavesAt link.0 cause self.old.servers self.new.servers
@@ -88,12 +93,12 @@ impl Core {
     /// the channel is left.
     pub(crate) fn ask_after_part(&mut self, change: Change)
         requires { WhatUtf8 change.what }
-        ensures { Does self.old self.new (λ state. then_does (before_step state change)
+        ensures { Runs self.old self.new (λ state. then_does (before_step state change)
             (λ next. ask_step next change)) }
     {
-        let starved = self.starved;
+        let cuts = self.cuts;
         self.part_before(&change);
-        if self.starved != starved {
+        if self.cuts != cuts {
             drop(change);
             return;
         }
@@ -101,7 +106,7 @@ impl Core {
     }
 
     fn part_before(&mut self, change: &Change)
-        ensures { Does self.old self.new (λ state. before_step state change.now) }
+        ensures { Runs self.old self.new (λ state. before_step state change.now) }
     {
         if matches!(change.what, What::Close) {
             self.part(change.buffer);
@@ -110,7 +115,7 @@ impl Core {
 
     /// Leaves the channel of a buffer.
     fn part(&mut self, buffer: Handle)
-        ensures { Does self.old self.new
+        ensures { Runs self.old self.new
             (λ state. parting_step state buffer (server_of state buffer)) }
     {
         let buffers = self.board.world().buffers();
@@ -137,7 +142,7 @@ impl Core {
     /// Tells each server whose link stands that the run ends, which then is to end. It ends also
     /// where memory is refused.
     pub(crate) fn quit(&mut self)
-        ensures { Does self.old self.new (λ state. quit_step state) }
+        ensures { Runs self.old self.new (λ state. quit_step state) }
     {
         let _seats = self.servers.seats();
         let told = self.servers.quit();

@@ -1,6 +1,6 @@
 ghost use Rattle.std.specs.Prelude.{◌≡◌, ◌≢◌, ◌⊎◌, ◌∷◌, ◌≤◌, ◌^◌, ◌-◌, ◌+◌};
 ghost use Rattle.std.specs.Prelude.{◌<◌, ◌++◌, [], min, true, false, Some, None};
-ghost use Rattle.std.specs.Prelude.{IfOk, IfSome, map, string_bytes};
+ghost use Rattle.std.specs.Prelude.{IfOk, IfSome, map, filter, length, string_bytes};
 ghost use Rattle.wc_text.specs.declared.names.Handle.{Handle as HandleValue};
 ghost use Rattle.wc_nickdiff.specs.Held.{touches_of};
 ghost use Rattle.wc_outside.specs.Keyed.{at_key, without};
@@ -10,18 +10,22 @@ ghost use Rattle.wc_session.specs.Served.{OnServed, OnNoMemory};
 ghost use Rattle.wc_core.specs.Events.{Start, Tick, Arrives, Line as LineCame};
 ghost use Rattle.wc_core.specs.Limits.{most_lines};
 ghost use Rattle.wc_core.specs.State.{Beside, first_state};
-ghost use Rattle.wc_core.specs.Step.{step, commands_step, push_step, loss_step};
+ghost use Rattle.wc_core.specs.Step.{step, commands_step, push_step};
 ghost use Rattle.wc_core.specs.Step.{link_loss_step, line_step, start_step};
 ghost use Rattle.wc_core.specs.Step.{outcome_step, request_step, client_link};
 ghost use Rattle.wc_servers.specs.Seats.{no_servers, seat_link, used_up, open_in};
 ghost use Rattle.wc_eval.specs.Verdicts.{Oracle};
-ghost use Rattle.wc_board.specs.Connections.{connection_link, is_open_at};
+ghost use Rattle.wc_board.specs.Connections.{connection_link, is_open, is_open_at};
 ghost use Rattle.wc_core.specs.Served.{state_of, Means, Does, ChangesServers};
+ghost use Rattle.wc_core.specs.Contained.{Runs, RunsFor, RunsHere, LosesAsker, starved_by, lost_number};
+ghost use Rattle.wc_core.specs.Contained.{want_number, Contains, Counts};
 ghost use Rattle.wc_core.specs.ServersKept.{LosesServer};
+ghost use Rattle.wc_core.specs.Starts.{Starts, RunsStart, RunsCommands};
 ghost use Rattle.wc_board.specs.Connections.{left_at, new_connection};
 ghost use Rattle.wc_core.specs.Served.{Absent, links_of};
-ghost use Rattle.wc_core.specs.Served.{AdmitsUnlessStarved, RanOutOfMemory};
+ghost use Rattle.wc_core.specs.Served.{AdmitsUnlessStarved};
 ghost use Rattle.wc_core.specs.Served.{OutcomeUtf8};
+ghost use Rattle.wc_core.specs.BoardSteps.{board_of, StepsBy};
 ghost use Rattle.wc_core.specs.Inputs.{AnswersRequestOf};
 
 use crate::limits::most_lines;
@@ -56,6 +60,8 @@ pub struct Core {
     /// Whether servers are connected by themselves at the start.
     pub(crate) connects: bool,
     pub(crate) starved: u64,
+    /// How many inputs were cut short for want of memory.
+    pub(crate) cuts: u64,
     pub(crate) quits: bool,
 }
 
@@ -82,6 +88,7 @@ impl Model for Core {
       verdicts = core.verdicts;
       connects = core.connects;
       starved = core.starved;
+      cuts = core.cuts;
       quits = core.quits;
     } };
 }
@@ -97,6 +104,7 @@ impl Core {
         ensures written { IfOk result (λ core. (core.unwritten ≡ false) × (core.saved ≡ None)) }
         ensures servers { IfOk result (λ core. core.servers ≡ no_servers) }
         ensures unjudged { IfOk result (λ core. core.verdicts.rows ≡ []) }
+        ensures uncut { IfOk result (λ core. core.cuts ≡ 0) }
     {
         let board = Board::new(alloc, most_lines(&options))?;
         let verdicts = Verdicts::new(alloc)?;
@@ -112,6 +120,7 @@ impl Core {
             unwritten: false,
             connects: true,
             starved: 0,
+            cuts: 0,
             quits: false,
         })
     }
@@ -122,6 +131,7 @@ impl Core {
     /// there are no commands and it was, nothing but the moment changes.
     pub fn start(&mut self, moment: u64)
         ensures does { Does self.old self.new (λ state. step state (Start moment)) }
+        ensures each { Starts moment self.old self.new }
         ensures idle { self.old.commands ≡ [] → self.old.connects ≡ false →
             self.new ≡ record self.old { moment = moment } }
     {
@@ -137,6 +147,7 @@ impl Core {
         requires { self.old.quits ≡ false }
         ensures does { Does self.old self.new
             (λ state. start_step state (map string_bytes commands.now)) }
+        ensures each { RunsStart (map string_bytes commands.now) self.old self.new }
         ensures idle { map string_bytes commands.now ≡ [] → self.old.connects ≡ false →
             self.new ≡ self.old }
     {
@@ -153,6 +164,7 @@ impl Core {
         requires { self.old.quits ≡ false }
         ensures does { Does self.old self.new
             (λ state. commands_step state (map string_bytes commands.now)) }
+        ensures each { RunsCommands (map string_bytes commands.now) self.old self.new }
         ensures idle { map string_bytes commands.now ≡ [] → self.new ≡ self.old }
     {
         for command in commands {
@@ -175,6 +187,9 @@ impl Core {
         } }
         ensures idle { ((buffer : HandleValue) → touches_of buffer self.old.pending ≡ []) →
             self.new ≡ record self.old { pending = self.new.pending; moment = moment } }
+        ensures contained { Contains self.old self.new (λ state. step state (Tick moment)) }
+        ensures counted { Counts 0 self.old self.new }
+        ensures drops { StepsBy None (board_of self.old) (board_of self.new) }
     {
         self.moment = moment;
         self.push();
@@ -182,7 +197,7 @@ impl Core {
 
     /// Pushes what became of each nicklist since it was last pushed.
     fn push(&mut self)
-        ensures does { Does self.old self.new (λ state. push_step state) }
+        ensures does { Runs self.old self.new (λ state. push_step state) }
         ensures stays { self.new ≡ record self.old {
           pending = self.new.pending;
           connections = self.new.connections;
@@ -191,19 +206,53 @@ impl Core {
         ensures idle { ((buffer : HandleValue) → touches_of buffer self.old.pending ≡ []) →
             self.new ≡ record self.old { pending = self.new.pending } }
     {
-        if self.board.push() {
-            return;
-        }
-        self.starve();
+        let before = self.board.open_count();
+        let _to_all = self.board.push();
+        self.count_dropped(before);
     }
 
-    /// Counts want of memory.
+    /// Counts an input that is cut short for want of memory.
     pub(crate) fn starve(&mut self)
-        ensures counts { self.new
-            ≡ record self.old { starved = min (self.old.starved + 1) (2 ^ 64 - 1) } }
+        ensures counts { self.new ≡ record self.old {
+          starved = min (self.old.starved + 1) (2 ^ 64 - 1);
+          cuts = min (self.old.cuts + 1) (2 ^ 64 - 1);
+        } }
         ensures rises { self.old.starved ≤ self.new.starved }
     {
         self.starved = self.starved.saturating_add(1);
+        self.cut();
+    }
+
+    /// Counts an input that is cut short where its want of memory is counted otherwise.
+    fn cut(&mut self)
+        ensures { self.new ≡ record self.old { cuts = min (self.old.cuts + 1) (2 ^ 64 - 1) } }
+    {
+        self.cuts = self.cuts.saturating_add(1);
+    }
+
+    /// Counts so many clients that were dropped, or links that were refused, for want of memory.
+    fn count_starved(&mut self, count: u64)
+        ensures counts { self.new ≡ record self.old {
+          starved = min (self.old.starved + count) (2 ^ 64 - 1);
+        } }
+        ensures rises { self.old.starved ≤ self.new.starved }
+    {
+        self.starved = self.starved.saturating_add(count);
+    }
+
+    /// Counts the clients that were dropped for want of memory since so many were open.
+    pub(crate) fn count_dropped(&mut self, before: usize)
+        requires { length (filter (λ connection. is_open connection) self.old.connections) ≤ before }
+        ensures counts { self.new ≡ record self.old {
+          starved =
+              min (self.old.starved + (before
+              - length (filter (λ connection. is_open connection) self.old.connections)))
+              (2 ^ 64 - 1);
+        } }
+        ensures rises { self.old.starved ≤ self.new.starved }
+    {
+        let dropped = before - self.board.open_count();
+        self.count_starved(dropped as u64);
     }
 
     /// Admits an arrival. It answers why where that is refused: as many clients as are allowed are
@@ -227,13 +276,14 @@ impl Core {
         ensures cause { IfSome result (λ cause. (cause ≡ Cause.Surplus)
             ⊎ (cause ≡ Cause.NoMemory)) }
         ensures rises { self.old.starved ≤ self.new.starved }
+        ensures counted { Counts (want_number result) self.old self.new }
     {
         self.servers.use_up(arrival.link);
         if self.is_full() {
             return Some(Cause::Surplus);
         }
         if self.board.admit(arrival, &self.options).is_err() {
-            self.starve();
+            self.count_starved(1);
             return Some(Cause::NoMemory);
         }
         None
@@ -244,6 +294,10 @@ impl Core {
     /// with that cause. A line of a client that is not UTF-8 or has no command's word takes no memory.
     pub fn relay_line(&mut self, link: LinkId, line: &[u8])
         ensures does { Does self.old self.new (λ state. step state (LineCame link.0 line.now)) }
+        ensures contained { Contains self.old self.new
+            (λ state. step state (LineCame link.0 line.now)) }
+        ensures counted { Counts 0 self.old self.new }
+        ensures drops { StepsBy (Some link.0) (board_of self.old) (board_of self.new) }
         ensures stray { is_open_at (at_key connection_link link.0 self.old.connections) ≡ true →
             ¬ (HasCommand line.now) → self.new ≡ self.old }
     {
@@ -256,7 +310,7 @@ impl Core {
 
     /// Serves a line of a client, where the client is open and the line is a request.
     fn client_line(&mut self, link: LinkId, line: &[u8])
-        ensures does { Does self.old self.new
+        ensures does { RunsHere link.0 self.old self.new
             (λ state. line_step state line.now (at_key client_link link.0 state.clients)) }
         ensures stray { ¬ (HasCommand line.now) → self.new ≡ self.old }
     {
@@ -269,7 +323,7 @@ impl Core {
         match read_request(self.alloc, line, session.escaped()) {
             Ok(Some(request)) => self.ask(link, request),
             Ok(None) => {}
-            Err(NoMemory) => self.starve_out(link),
+            Err(NoMemory) => self.lose_asker(link),
         }
     }
 
@@ -278,7 +332,7 @@ impl Core {
         requires opened { is_open_at (at_key connection_link link.0 self.old.connections) ≡ true }
         requires text { RequestIsUtf8 request }
         ensures { IfSome (at_key connection_link link.0 self.old.connections)
-            (λ connection. Does self.old self.new
+            (λ connection. RunsFor (Some link.0) self.old self.new
             (λ state. request_step state connection.session.client (Some request))) }
     {
         let outcome = self.answer(link, request);
@@ -294,9 +348,7 @@ impl Core {
     {
         let before = self.board.open_count();
         let outcome = self.board.request(&self.options, link, request);
-        if self.board.open_count() < before {
-            self.starve();
-        }
+        self.count_dropped(before);
         outcome
     }
 
@@ -306,23 +358,29 @@ impl Core {
             (is_open_at (at_key connection_link link.0 self.old.connections) ≡ true) }
         requires text { OutcomeUtf8 outcome }
         ensures does { OnServed outcome
-            (Does self.old self.new (λ state. outcome_step state link.0 outcome)) }
-        ensures refused { OnNoMemory outcome (RanOutOfMemory self.old self.new) }
+            (RunsFor (Some link.0) self.old self.new
+            (λ state. outcome_step state link.0 outcome)) }
+        ensures refused { OnNoMemory outcome (LosesAsker link.0 self.old self.new) }
+        ensures rises { self.old.starved ≤ self.new.starved }
     {
         match outcome {
             Outcome::Replied | Outcome::Silent => {}
             Outcome::Input { buffer, text } => self.run_input(buffer, text.as_slice()),
-            Outcome::Leave(cause) => self.lose(link, cause),
-            Outcome::NoMemory => self.starve_out(link),
+            Outcome::Leave(cause) => self.lose_client(link, cause),
+            Outcome::NoMemory => self.lose_asker(link),
         }
     }
 
-    /// Marks the client of a link as leaving for want of memory.
-    fn starve_out(&mut self, link: LinkId)
-        ensures { RanOutOfMemory self.old self.new }
+    /// Has the client of a link leave that found no memory for what it asked, where it is open. What
+    /// it asked is cut short.
+    fn lose_asker(&mut self, link: LinkId)
+        ensures loses { LosesAsker link.0 self.old self.new }
+        ensures rises { self.old.starved ≤ self.new.starved }
     {
-        self.lose(link, Cause::NoMemory);
-        self.starve();
+        if self.board.is_open(link) {
+            self.lose_client(link, Cause::NoMemory);
+        }
+        self.cut();
     }
 
     /// Serves the loss of a link for this cause: its client, if it is open, is leaving, or else its
@@ -349,48 +407,44 @@ impl Core {
         ensures starves { open_in (at_key seat_link link.0 self.old.servers.seats) ≡ None →
             cause ≡ Cause.NoMemory → self.new.starved ≡ min (self.old.starved + 1)
             (2 ^ 64 - 1) }
-    {
-        self.lose_link(link, cause);
-        if cause != Cause::NoMemory {
-            return;
-        }
-        self.starve();
-    }
-
-    /// Has the open client of a link leave, or else its server.
-    fn lose_link(&mut self, link: LinkId, cause: Cause)
-        ensures does { Does self.old self.new
+        ensures contained { Contains self.old self.new
             (λ state. link_loss_step state link.0 cause (at_key client_link link.0 state.clients)) }
-        ensures gone { is_open_at (at_key connection_link link.0 self.new.connections) ≡ false }
-        ensures stays { ChangesServers self.old self.new }
-        ensures servers { LosesServer
-            (is_open_at (at_key connection_link link.0 self.old.connections)) link.0 cause
-            self.old.servers self.new.servers }
-        ensures leaves { open_in (at_key seat_link link.0 self.old.servers.seats) ≡ None →
-            self.new ≡ record self.old {
-              connections =
-                  left_at link.0 cause self.old.connections
-                  (at_key connection_link link.0 self.old.connections);
-            } }
+        ensures counts { Counts (lost_number
+            (is_open_at (at_key connection_link link.0 self.old.connections)) cause)
+            self.old self.new }
+        ensures drops { StepsBy (Some link.0) (board_of self.old) (board_of self.new) }
     {
         if self.board.is_open(link) {
-            self.lose(link, cause);
+            self.lose_client(link, cause);
             return;
         }
         self.lose_server(link, cause);
+        self.count_refusal(cause);
     }
 
-    fn lose(&mut self, link: LinkId, cause: Cause)
-        ensures does { Does self.old self.new
-            (λ state. loss_step state link.0 cause (at_key client_link link.0 state.clients)) }
-        ensures gone { is_open_at (at_key connection_link link.0 self.new.connections) ≡ false }
-        ensures starved { self.new.starved ≡ self.old.starved }
+    /// Has the open client of a link leave for this cause. Want of memory is counted.
+    fn lose_client(&mut self, link: LinkId, cause: Cause)
+        requires { is_open_at (at_key connection_link link.0 self.old.connections) ≡ true }
         ensures leaves { self.new ≡ record self.old {
           connections =
               left_at link.0 cause self.old.connections
               (at_key connection_link link.0 self.old.connections);
+          starved = starved_by cause self.old.starved;
         } }
+        ensures rises { self.old.starved ≤ self.new.starved }
+        ensures gone { is_open_at (at_key connection_link link.0 self.new.connections) ≡ false }
     {
         self.board.retire(link, cause);
+        self.count_refusal(cause);
+    }
+
+    /// Counts the loss of a client or of another link, where its cause is want of memory.
+    fn count_refusal(&mut self, cause: Cause)
+        ensures counts { self.new ≡ record self.old { starved = starved_by cause self.old.starved } }
+        ensures rises { self.old.starved ≤ self.new.starved }
+    {
+        if cause == Cause::NoMemory {
+            self.count_starved(1);
+        }
     }
 }

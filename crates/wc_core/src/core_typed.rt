@@ -5,7 +5,8 @@ ghost use Rattle.std.specs.Prelude.{◌≡◌, ◌≢◌, ◌++◌, true, ℕ, L
 ghost use Rattle.std.specs.List.{All};
 ghost use Rattle.std.specs.Str.{IsUtf8};
 ghost use Rattle.wc_core.specs.Resolved.{option_text};
-ghost use Rattle.wc_core.specs.Served.{plain_beside, state_of, Does};
+ghost use Rattle.wc_core.specs.Contained.{Runs};
+ghost use Rattle.wc_core.specs.Served.{plain_beside, state_of};
 ghost use Rattle.wc_core.specs.ServerSteps.{say_step, server_of, server_acts_step};
 ghost use Rattle.wc_core.specs.ServerTyped.{settings_step, delete_step, unlinked_text};
 ghost use Rattle.wc_core.specs.ServerTyped.{disconnect_step, meant_server, on_buffer_step};
@@ -63,7 +64,7 @@ impl Core {
     pub(crate) fn serve_line(&mut self, buffer: Handle, line: &[u8], front: &[u8], name: &[u8])
         requires line { IsUtf8 line.now }
         requires text { IsUtf8 (front.now ++ name.now) }
-        ensures { Does self.old self.new
+        ensures { Runs self.old self.new
             (λ state. served_line_step state buffer line.now (front.now ++ name.now)) }
     {
         let Ok(asked) = in_one_line(self.alloc, line) else {
@@ -79,7 +80,7 @@ impl Core {
     /// Tells a refusal whose text is these two.
     fn refuse(&mut self, front: &[u8], name: &[u8])
         requires { IsUtf8 (front.now ++ name.now) }
-        ensures { Does self.old self.new
+        ensures { Runs self.old self.new
             (λ state. refusal_step state (front.now ++ name.now)) }
     {
         match joined_texts(self.alloc, front, name) {
@@ -92,7 +93,7 @@ impl Core {
     fn serve_command(&mut self, buffer: Handle, line: &[u8], command: ServerCommand<'_>)
         requires line { IsUtf8 line.now }
         requires asked { asked_of (in_one_line line.now) ≡ Some (meaning command) }
-        ensures { (text : List ℕ) → Does self.old self.new
+        ensures { (text : List ℕ) → Runs self.old self.new
             (λ state. served_step state buffer line.now text (Some (meaning command.entry))) }
     {
         match command {
@@ -120,7 +121,7 @@ impl Core {
     /// Sets the options of a server that is added, up to one that is refused.
     fn add_server(&mut self, name: &[u8], address: &[u8], tls: Option<bool>)
         requires { IsUtf8 address.now }
-        ensures { Does self.old self.new
+        ensures { Runs self.old self.new
             (λ state. settings_step state (settings_of name.now address.now tls)) }
     {
         match server_settings(self.alloc, name, address, tls) {
@@ -132,7 +133,7 @@ impl Core {
     /// Gives options values, one after another, up to one that is refused.
     fn set_each(&mut self, settings: &[Pair])
         requires { All HasTextValue settings.now }
-        ensures { Does self.old self.new (λ state. settings_step state settings.now) }
+        ensures { Runs self.old self.new (λ state. settings_step state settings.now) }
     {
         for setting in settings {
             match self.options.set(self.alloc, &setting.name, &setting.value) {
@@ -147,10 +148,10 @@ impl Core {
 
     /// Tells why an option does not get a value, and counts want of memory.
     fn refuse_setting(&mut self, name: &Text, refused: &SetRefused)
-        ensures told { refused.now ≢ SetRefused.NoMemory → Does self.old self.new
+        ensures told { refused.now ≢ SetRefused.NoMemory → Runs self.old self.new
             (λ state. say_step state (option_text name.now refused.now)) }
         ensures starves { refused.now ≡ SetRefused.NoMemory → (step : State → Stepped) →
-            Does self.old self.new step }
+            Runs self.old self.new step }
     {
         match refused {
             SetRefused::NoMemory => self.starve(),
@@ -159,7 +160,7 @@ impl Core {
     }
 
     fn say_setting(&mut self, name: &Text, refused: &SetRefused)
-        ensures { Does self.old self.new
+        ensures { Runs self.old self.new
             (λ state. say_step state (option_text name.now refused.now)) }
     {
         match option_text(self.alloc, name.as_slice(), refused) {
@@ -170,7 +171,7 @@ impl Core {
 
     /// Deletes a server, or tells why it is refused.
     fn delete_server(&mut self, name: &[u8])
-        ensures { Does self.old self.new (λ state. delete_step state name.now
+        ensures { Runs self.old self.new (λ state. delete_step state name.now
             (delete_refusal state.options (is_linked state name.now) name.now)) }
     {
         let is_linked = self.servers.named(name).is_some();
@@ -185,7 +186,7 @@ impl Core {
 
     /// Ends the connection of the server that is named, or else of that of the buffer.
     fn disconnect(&mut self, buffer: Handle, name: Option<&[u8]>)
-        ensures { Does self.old self.new
+        ensures { Runs self.old self.new
             (λ state. disconnect_step state buffer (option_copied name.entry)) }
     {
         match self.meant_server(buffer, name) {
@@ -211,7 +212,7 @@ impl Core {
     }
 
     fn refuse_unlinked(&mut self, name: Option<&[u8]>)
-        ensures { Does self.old self.new (λ state. say_step state
+        ensures { Runs self.old self.new (λ state. say_step state
             (unlinked_text state.options (option_copied name.entry))) }
     {
         match unlinked_text(self.alloc, &self.options, name) {
@@ -222,9 +223,9 @@ impl Core {
 
     /// Runs the acts of a command, where memory was found for them.
     fn run_found(&mut self, link: LinkId, acts: Result<Items<Act>, NoMemory>)
-        ensures found { IfOk acts (λ acts. Does self.old self.new
+        ensures found { IfOk acts (λ acts. Runs self.old self.new
             (λ state. server_acts_step true link.0 state acts)) }
-        ensures starves { IfErr acts (λ e. (step : State → Stepped) → Does self.old self.new step) }
+        ensures starves { IfErr acts (λ e. (step : State → Stepped) → Runs self.old self.new step) }
     {
         match acts {
             Ok(acts) => self.run_server_acts(link, acts, true),
@@ -235,7 +236,7 @@ impl Core {
     /// Does what a text asks of the server of a buffer.
     fn serve_buffer(&mut self, buffer: Handle, line: &[u8])
         requires { IsUtf8 line.now }
-        ensures { Does self.old self.new
+        ensures { Runs self.old self.new
             (λ state. on_buffer_step state buffer line.now (server_of state buffer)) }
     {
         let buffers = self.board.world().buffers();
@@ -254,9 +255,9 @@ impl Core {
 
     /// Runs the acts of a text, where memory was found for them.
     fn run_typed(&mut self, link: LinkId, acts: Result<Option<Items<Act>>, NoMemory>)
-        ensures found { IfOk acts (λ acts. Does self.old self.new
+        ensures found { IfOk acts (λ acts. Runs self.old self.new
             (λ state. server_acts_step true link.0 state (acts_in acts))) }
-        ensures starves { IfErr acts (λ e. (step : State → Stepped) → Does self.old self.new step) }
+        ensures starves { IfErr acts (λ e. (step : State → Stepped) → Runs self.old self.new step) }
     {
         match acts {
             Ok(Some(acts)) => self.run_server_acts(link, acts, true),

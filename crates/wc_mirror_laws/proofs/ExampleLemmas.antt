@@ -29,6 +29,7 @@ use Rattle.wc_core.specs.Events.{Event, Arrives, Line}
 use Rattle.wc_core.specs.Limits.{client_limit}
 use Rattle.wc_core.specs.State.{State, Stepped, Closes, first_state}
 use Rattle.wc_core.specs.Step.{client_link, no_step, link_line_step, reply_step, request_step, answer_step, step, run}
+use Rattle.wc_core.specs.Changing.{put_step, reach_step}
 use Rattle.wc_outside.specs.Keyed.{at_key}
 use Rattle.wc_mirror_laws.specs.Held.{HeldPart, Lines, Buffers, Nicks}
 use Rattle.wc_mirror_laws.specs.Settled.{AskedFor, asked_by, asked_with, asked_in, asked_on, client_on, follows_all, is_following, TakesDump, SettledBy}
@@ -179,7 +180,7 @@ module _ (oracle : Oracle) where
   first_step : (limit : ℕ) → (step (first_state oracle only_password limit []) (Arrives 1 [])).state ≡ with_client limit came
   first_step limit =
       let state = first_state oracle only_password limit [] in
-      ap (λ n. (cond (nat_lt 0 n) (no_step (with_client limit came)) (record { state = record state { used = 1 }; acts = Closes 1 cause.Surplus ∷ [] })).state) most_are
+      ap (λ n. (cond (nat_lt 0 n) (put_step (with_client limit came)) (reach_step (record state { used = 1 }) (Closes 1 cause.Surplus ∷ []))).state) most_are
 
   -- the state after a line
   line_state : (limit : ℕ) (client : Client) (line : List ℕ) (request : Request) (answer : Answer) → client_link client ≡ 1 → request_of client.escaped line ≡ Some request

@@ -11,6 +11,7 @@ use Rattle.wc_options.specs.declared.refusal.SetRefused.TheVariants.{UnknownOpti
 use Rattle.wc_core.specs.Resolved.{Effect, Stays, Ends as ResolvedEnds, Tells as TellsRefusal, Asks, SetsOption, UnsetsOption, SavesOptions, effect_of, option_text}
 use Rattle.wc_core.specs.State.{State, Stepped, has_end}
 use Rattle.wc_core.specs.Step.{no_step, then_does, set_step_if, unset_step_if, ask_step, effect_step, other_of, input_by, input_step, lines_step, core_buffer, commands_step, start_step, plain_step, Evaluation, evaluated_by, input_with, eval_step, evaluation_at}
+use Rattle.wc_core.specs.Changing.{put_step}
 use Rattle.wc_core.specs.ServerSteps.{before_step}
 use Rattle.wc_core.specs.ServerTyped.{connect_all_step}
 use Rattle.wc_core.specs.Typed.{typed_line, lines_of_text, evaluation_of}
@@ -30,7 +31,7 @@ use Rattle.wc_core.specs.declared.typed_eval.EvalUse.{EvalUse}
 use Rattle.wc_core.specs.declared.typed_eval.EvalUse.TheVariants as eval
 
 -- the options have no part in what is held
-Tells-options : (which : HeldPart) (limit link : ℕ) (id : List ℕ) (state : State) (options : OptionsValue) → IsStateKept limit link state → Tells which limit link id state (no_step (record state { options = options }))
+Tells-options : (which : HeldPart) (limit link : ℕ) (id : List ℕ) (state : State) (options : OptionsValue) → IsStateKept limit link state → Tells which limit link id state (put_step (record state { options = options }))
 Tells-options which limit link id state options kept = record { following = refl; kept = record { most = kept.most; world = kept.world; told = kept.told; texts = kept.texts; first = kept.first }; spelt = tt; right = λ follows part had. had }
 
 -- a change, before which the channel of a buffer that is closed is left

@@ -28,7 +28,7 @@ use Rattle.wc_mirror_laws.specs.Held.{HeldPart}
 use Rattle.wc_mirror_laws.specs.Kept.{IsStateKept}
 use Rattle.wc_mirror_laws.proofs.ChangeLemmas.{Tells, Tells-stays, Tells-then, Tells-tells}
 use Rattle.wc_mirror_laws.proofs.MildCommands.{mild_disconnect, mild_typed, mild_unlinked}
-use Rattle.wc_mirror_laws.proofs.ServerLemmas.{kept_aside, Tells-aside, Tells-beside, Tells-says, Tells-tries, Tells-server}
+use Rattle.wc_mirror_laws.proofs.ServerLemmas.{kept_aside, Tells-aside, Tells-put, Tells-says, Tells-tries, Tells-server}
 
 module _ (which : HeldPart) (limit link : ℕ) (id : List ℕ) (free : BeginsWithout 95 id) where
   abbrev Kept : State → Type 0
@@ -53,7 +53,7 @@ module _ (which : HeldPart) (limit link : ℕ) (id : List ℕ) (free : BeginsWit
 
     by : (o : Option SetRefused) → ((next : State) → Kept next → Does next (settings_step next settings)) → Does state (settings_if state setting (λ next. settings_step next settings) o)
     by None others =
-        Tells-beside which limit link id free state next.options state.servers state.used (settings_step next settings) (others next (kept_aside limit link state next.options state.servers state.used kept))
+        Tells-put which limit link id free state next.options state.servers state.used (λ next. settings_step next settings) (others next (kept_aside limit link state next.options state.servers state.used kept))
     by (Some reason) others = says state (option_text setting.name reason) kept
 
   Tells-deletes : (state : State) (name : List ℕ) (o : Option (List ℕ)) → Kept state → Does state (delete_step state name o)

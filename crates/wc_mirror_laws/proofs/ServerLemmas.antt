@@ -32,6 +32,7 @@ use Rattle.wc_core.specs.State.{State, Act, Serves, Quits, Stepped}
 use Rattle.wc_core.specs.Step.{no_step, change_step_if, refusal_step}
 use Rattle.wc_core.specs.Served.{messages_to}
 use Rattle.wc_core.specs.ServerSteps.{dated, say_step, told_step_if, try_step, on_step, send_step, act_step, acts_step, leave_server, server_loss_step, leave_in, loss_step_if, server_acts_step, with_server, message_step, server_line_step, stands_step, server_of, parting_step, before_step, quit_step}
+use Rattle.wc_core.specs.Changing.{put_step, then_does}
 use Rattle.wc_mirror_laws.specs.Changes.{IsTold}
 use Rattle.wc_mirror_laws.specs.Held.{HeldPart, Has}
 use Rattle.wc_mirror_laws.specs.Kept.{IsStateKept}
@@ -60,9 +61,9 @@ module _ (which : HeldPart) (limit link : ℕ) (id : List ℕ) (free : BeginsWit
   Does state stepped = Tells which limit link id state stepped
 
   -- nor in what is held
-  pub Tells-aside : (state : State) (options : OptionsValue) (servers : List ServerSeat) (used : ℕ) (acts : List Act) → messages_to link acts ≡ [] → Kept state
-      → Does state (record { state = record state { options = options; servers = servers; used = used }; acts = acts })
-  Tells-aside state options servers used acts none kept =
+  pub Tells-aside : {way : List State} (state : State) (options : OptionsValue) (servers : List ServerSeat) (used : ℕ) (acts : List Act) → messages_to link acts ≡ [] → Kept state
+      → Does state (record { state = record state { options = options; servers = servers; used = used }; acts = acts; way = way })
+  Tells-aside {way} state options servers used acts none kept =
       let next : State = record state { options = options; servers = servers; used = used } in
       record {
         following = refl;
@@ -71,9 +72,10 @@ module _ (which : HeldPart) (limit link : ℕ) (id : List ℕ) (free : BeginsWit
         right = λ follows part had. subst (λ messages. Has which (fold_all which limit id part messages) next) (sym none) had;
       }
 
-  -- what is done from another state that differs in these alone
-  pub Tells-beside : (state : State) (options : OptionsValue) (servers : List ServerSeat) (used : ℕ) (stepped : Stepped) → Does (record state { options = options; servers = servers; used = used }) stepped → Does state stepped
-  Tells-beside state options servers used stepped tells = record { following = tells.following; kept = tells.kept; spelt = tells.spelt; right = λ follows part had. tells.right follows part had }
+  -- what is done from another state that differs in these alone, which is come through
+  pub Tells-put : (state : State) (options : OptionsValue) (servers : List ServerSeat) (used : ℕ) (others : State → Stepped) → Does (record state { options = options; servers = servers; used = used }) (others (record state { options = options; servers = servers; used = used }))
+      → Does state (then_does (put_step (record state { options = options; servers = servers; used = used })) others)
+  Tells-put state options servers used others tells = record { following = tells.following; kept = tells.kept; spelt = tells.spelt; right = λ follows part had. tells.right follows part had }
 
   -- ---- acts, one by one
 
@@ -147,10 +149,10 @@ module _ (which : HeldPart) (limit link : ℕ) (id : List ℕ) (free : BeginsWit
   -- ---- lines, and a link that stands
 
   -- the server of a link is another one first
-  Tells-known : (k : ℕ) (state : State) (server : ServerState) (acts : List ServerAct) → Kept state → AreMild acts → Does state (server_acts_step false k (with_server state k server) acts)
+  Tells-known : (k : ℕ) (state : State) (server : ServerState) (acts : List ServerAct) → Kept state → AreMild acts → Does state (then_does (put_step (with_server state k server)) (λ next. server_acts_step false k next acts))
   Tells-known k state server acts kept mild =
       let servers = (with_server state k server).servers in
-      Tells-beside state state.options servers state.used (server_acts_step false k (with_server state k server) acts)
+      Tells-put state state.options servers state.used (λ next. server_acts_step false k next acts)
       (Tells-server false k (with_server state k server) acts (kept_aside limit link state state.options servers state.used kept) mild)
 
   pub Tells-line : (state : State) (k : ℕ) (line : List ℕ) (o : Option ServerSeat) → Kept state → Does state (server_line_step state k line o)

@@ -22,6 +22,7 @@ use Rattle.wc_core.specs.State.{State, Stepped, Closes}
 use Rattle.wc_servers.specs.Seats.{server_link}
 use Rattle.wc_core.specs.Limits.{client_limit}
 use Rattle.wc_core.specs.Step.{client_link, no_step, sends, leave_step, outcome_step, answer_step, request_step, link_line_step, link_loss_step, step}
+use Rattle.wc_core.specs.Changing.{put_step, reach_step}
 use Rattle.wc_core.specs.Served.{OutcomeUtf8}
 use Rattle.wc_core.specs.Typed.{lines_of_text}
 use Rattle.wc_core.proofs.ReplyLemmas.{reply_fits}
@@ -132,10 +133,10 @@ kept-ticked limit link state moment kept = record { most = kept.most; world = ke
 
 -- a client that came, where there are not too many
 abbrev pub arrived : State → ℕ → List ℕ → Bool → Stepped
-arrived state k nonce b = cond b (no_step (record state {
+arrived state k nonce b = cond b (put_step (record state {
   clients = state.clients ++ new_client state.options (record { 0 = k }) nonce ∷ [];
   used = max state.used k;
-})) (record { state = record state { used = max state.used k }; acts = Closes k cause.Surplus ∷ [] })
+})) (reach_step (record state { used = max state.used k }) (Closes k cause.Surplus ∷ []))
 
 pub step_keeps : StepKeeps
 step_keeps limit link state (Start moment) kept = (Tells-start Lines limit link [] state moment tt kept).kept

@@ -10,6 +10,7 @@ use Rattle.wc_core.specs.Events.{Arrives}
 use Rattle.wc_core.specs.CoreView.{CoreView}
 use Rattle.wc_core.specs.State.{State, Act, Stepped}
 use Rattle.wc_core.specs.Step.{step}
+use Rattle.wc_core.specs.Changing.{reach_step}
 use Rattle.wc_options.specs.Options.{OptionsValue}
 use Rattle.wc_board.specs.Connections.{connection_link, is_open, left_if, left_at, new_connection}
 use Rattle.wc_core.specs.Served.{links_of, state_of, WereTold, Means, refusal, Absent, AdmitsUnlessStarved}
@@ -83,8 +84,18 @@ starve-core r old mid lost new link nonce why nobody admitted refused loses forg
 pub calm-as : (old new : CoreView) (link : ℕ) → new ≡ record old { servers = used_up link old.servers; starved = new.starved } → IsCalm old → IsCalm new
 calm-as old new link e calm = record { parted = ap closes_asked e ∙ calm.parted; asked = ap (λ c. c.servers.wanted) e ∙ calm.asked }
 
-stepped-same : (p : Stepped) (state : State) (acts : List Act) → p.state ≡ state → p.acts ≡ acts → p ≡ record { state = state; acts = acts }
-stepped-same p state acts e f = rw (← e, ← f) refl
+stepped-same : (p : Stepped) (state : State) (acts : List Act) → p.state ≡ state → p.acts ≡ acts → p.way ≡ p.state ∷ [] → p ≡ reach_step state acts
+stepped-same p state acts e f g =
+    let of : List State → Stepped = λ way. record { state = p.state; acts = p.acts; way = way } in
+    ap of g ∙ ap (λ s. reach_step s p.acts) e ∙ ap (reach_step state) f
+
+-- no other state is come through
+arrival-way : (state : State) (link : ℕ) (nonce : List ℕ) → (step state (Arrives link nonce)).way ≡ (step state (Arrives link nonce)).state ∷ []
+arrival-way state link nonce = by (nat_lt (length state.clients) (client_limit state.options)) _ _ refl refl
+  where
+    by : (t : Bool) (x y : Stepped) → x.way ≡ x.state ∷ [] → y.way ≡ y.state ∷ [] → (cond t x y).way ≡ (cond t x y).state ∷ []
+    by true x y p q = p
+    by false x y p q = q
 
 arrival-told : (state : State) (link : ℕ) (nonce : List ℕ) → beside (step state (Arrives link nonce)).state ≡ beside state
 arrival-told state link nonce = by (nat_lt (length state.clients) (client_limit state.options)) _ _ refl refl
@@ -101,11 +112,11 @@ arrival-state old new link nonce told core means =
 
 -- a refused client is none
 pub refused-step : (old new : CoreView) (link : ℕ) (nonce : List ℕ) (why : Cause) → new ≡ record old { servers = used_up link old.servers; starved = new.starved } → (Absent link (links_of old) → (told : Beside) → AdmitsUnlessStarved told link old new (Some why) (step (state_of old told) (Arrives link nonce)))
-    → new.starved ≡ old.starved → old.starved < 2 ^ 64 - 1 → has_party link old ≡ false → (told : Beside) → WereTold old told → step (state_of old told) (Arrives link nonce) ≡ record { state = record (state_of old told) { used = max old.servers.used link }; acts = refusal link (Some why) }
+    → new.starved ≡ old.starved → old.starved < 2 ^ 64 - 1 → has_party link old ≡ false → (told : Beside) → WereTold old told → step (state_of old told) (Arrives link nonce) ≡ reach_step (record (state_of old told) { used = max old.servers.used link }) (refusal link (Some why))
 refused-step old new link nonce why core comes same below nobody told were =
     let absent = absent-missing connection_link link old.connections (no-client link old nobody) in
     let came = (comes absent told).comes same below were in
-    stepped-same (step (state_of old told) (Arrives link nonce)) (record (state_of old told) { used = max old.servers.used link }) (refusal link (Some why)) (arrival-state old new link nonce told core came.means) came.acts
+    stepped-same (step (state_of old told) (Arrives link nonce)) (record (state_of old told) { used = max old.servers.used link }) (refusal link (Some why)) (arrival-state old new link nonce told core came.means) came.acts (arrival-way (state_of old told) link nonce)
 
 pub refused-opened : (link : LinkId) (old mid new : List LinkState) → mid ≡ old ++ new_state link None false ∷ [] → new ≡ without link_number link.0 mid → at_key link_number link.0 old ≡ None → new ≡ old
 refused-opened link old mid new admitted closed none = closed ∙ ap (without link_number link.0) admitted ∙ without-push link_number link.0 (new_state link None false) old refl ∙ without-missing link_number link.0 old none

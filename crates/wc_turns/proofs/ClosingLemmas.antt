@@ -120,8 +120,8 @@ follows-one link state (outcome.Leave why) = leaves-one link state why
 follows-one link state outcome.NoMemory = stays-one link state
 
 -- acts in front that close nothing
-front-one : (link : ℕ) (front : List Act) (stepped : Stepped) → ((k : ℕ) → close_of k front ≡ None) → StepsOne link stepped → StepsOne link (record { state = stepped.state; acts = front ++ stepped.acts })
-front-one link front stepped none h =
+front-one : (link : ℕ) (front : List Act) (stepped : Stepped) (way : List State) → ((k : ℕ) → close_of k front ≡ None) → StepsOne link stepped → StepsOne link (record { state = stepped.state; acts = front ++ stepped.acts; way = way })
+front-one link front stepped way none h =
     let same : (k : ℕ) → close_of k (front ++ stepped.acts) ≡ close_of k stepped.acts = λ k. close_of-append k front stepped.acts ∙ ap (λ o. or_else o (close_of k stepped.acts)) (none k) in
     record {
       acts = record {
@@ -140,7 +140,7 @@ front-one link front stepped none h =
 answers-one : (link : ℕ) (state : State) (answer : Answer) → StepsOne link (answer_step state link answer)
 answers-one link state answer =
     let next : State = record state { clients = put_at client_link link answer.client state.clients } in
-    front-one link (sends link answer.messages) (outcome_step next link answer.outcome) (λ k. close-sends k link answer.messages) (follows-one link next answer.outcome)
+    front-one link (sends link answer.messages) (outcome_step next link answer.outcome) _ (λ k. close-sends k link answer.messages) (follows-one link next answer.outcome)
 
 asked-one : (state : State) (client : Client) (request : Option Request) → StepsOne (client_link client) (request_step state client request)
 asked-one state client None = stays-one (client_link client) state
@@ -152,7 +152,7 @@ asked-one state client (Some request) = by (client.logged_in && is_nicklist requ
   following = (push_step state).state
 
   by : (b : Bool) → StepsOne link (cond b (then_does (push_step state) (λ next. answered next client request)) (answered state client request))
-  by true = front-one link (push_step state).acts (answered following client request) (λ k. pushes-closes k state) (answers-one link following (reply_of following.world following.options client request))
+  by true = front-one link (push_step state).acts (answered following client request) _ (λ k. pushes-closes k state) (answers-one link following (reply_of following.world following.options client request))
   by false = answers-one link state (reply_of state.world state.options client request)
 
 found-key : (link : ℕ) (clients : List Client) (client : Client) → at_key client_link link clients ≡ Some client → client_link client ≡ link

@@ -22,8 +22,10 @@ use Rattle.wc_turns.proofs.ClosingLemmas.{LineCause, line-cause, line-others}
 use Rattle.wc_eval.specs.Verdicts.{Oracle, Agrees}
 use Rattle.wc_core.proofs.OracleLemmas.{Agrees-before}
 
-pub Follows-acts : (told : Beside) (a b : CoreView) (state : State) (acts acts' : List Act) → acts ≡ acts' → Follows told a b (record { state = state; acts = acts }) → Follows told a b (record { state = state; acts = acts' })
-Follows-acts told a b state acts acts' e did = subst (λ xs. Follows told a b (record { state = state; acts = xs })) e did
+pub Follows-acts : (told : Beside) (a b : CoreView) (state : State) (acts acts' : List Act) (way way' : List State) → acts ≡ acts' → Follows told a b (record { state = state; acts = acts; way = way }) → Follows told a b (record { state = state; acts = acts'; way = way' })
+Follows-acts told a b state acts acts' way way' e did =
+    let g = subst (λ xs. Follows told a b (record { state = state; acts = xs; way = way })) e did in
+    record { means = g.means; oracle = g.oracle; bytes = g.bytes; leaving = g.leaving; quits = g.quits; servers = g.servers; parts = g.parts }
 
 Follows-append : (told : Beside) (a b c : CoreView) (es fs : List Event) → ServersKeep a.servers b.servers → Follows told a b (run (state_of a told) es) → Follows (beside (run (state_of a told) es).state) b c (run (state_of b (beside (run (state_of a told) es).state)) fs) → Follows told a c (run (state_of a told) (es ++ fs))
 Follows-append told a b c es fs keep h g =
@@ -50,7 +52,7 @@ MayRun-none a = record { keeps = KeepsClients-refl a; does = λ same below disti
 pub MayRun-one : (a b : CoreView) (event : Event) → Does a b (λ state. step state event) → MayRun a b (event ∷ [])
 MayRun-one a b event h = record {
   keeps = (h (plain_beside a)).keeps;
-  does = λ same below distinct told were agrees. (let s = step (state_of a told) event in Follows-acts told a b s.state s.acts (s.acts ++ []) (sym (append-nil s.acts)) ((h told).does same below distinct were agrees));
+  does = λ same below distinct told were agrees. (let s = step (state_of a told) event in Follows-acts told a b s.state s.acts (s.acts ++ []) s.way (s.way ++ []) (sym (append-nil s.acts)) ((h told).does same below distinct were agrees));
   stops = λ same below distinct told were agrees. EndsAtQuit-one (state_of a told) (event ∷ []) refl;
 }
 

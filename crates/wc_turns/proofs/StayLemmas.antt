@@ -31,6 +31,7 @@ use Rattle.wc_core.specs.State.{State, Act, Stepped}
 use Rattle.wc_core.specs.Served.{outs_of}
 use Rattle.wc_core.specs.Changing.{client_link, no_step, then_does, change_step, change_step_if, refusal_step}
 use Rattle.wc_core.specs.ServerSteps.{dated, say_step, told_step_if, try_step, on_step, send_step, act_step, acts_step, leave_server, server_loss_step, leave_in, loss_step_if, server_acts_step, with_server, message_step, server_line_step, stands_step}
+use Rattle.wc_core.specs.Changing.{put_step}
 use Rattle.wc_core.proofs.DidLemmas.{outs_of-append}
 use Rattle.wc_turns.proofs.KeyedLemmas.{is_some-put_at}
 
@@ -154,7 +155,7 @@ stays-server link tells state acts =
     stays-then link state (acts_step tells link state acts) (λ next. loss_step_if link next (leave_in acts)) (stays-acts link tells link state acts) (stays-lost-if link (acts_step tells link state acts).state (leave_in acts))
 
 -- the server of a link becomes another one, and acts
-stays-with : (link : ℕ) (state : State) (server : ServerState) (acts : List ServerAct) → Stays link state (server_acts_step false link (with_server state link server) acts)
+stays-with : (link : ℕ) (state : State) (server : ServerState) (acts : List ServerAct) → Stays link state (then_does (put_step (with_server state link server)) (λ next. server_acts_step false link next acts))
 stays-with link state server acts =
     let h = stays-server link false (with_server state link server) acts in
     record {

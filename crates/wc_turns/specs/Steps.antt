@@ -8,6 +8,7 @@ use Rattle.wc_text.specs.declared.names.Cause.{Cause}
 use Rattle.wc_text.specs.declared.names.Cause.TheVariants.{NoMemory, Surplus}
 use Rattle.wc_core.specs.Events.{Arrives}
 use Rattle.wc_core.specs.Step.{step, run}
+use Rattle.wc_core.specs.Changing.{reach_step}
 use Rattle.wc_core.specs.CoreView.{CoreView}
 use Rattle.wc_core.specs.Served.{state_of, WereTold, links_of, refusal, Absent, Distinct}
 use Rattle.wc_core.specs.Served.{KeepsClients, close_of}
@@ -90,10 +91,8 @@ pub record RefusesArrival (x y : Headless) (link : LinkId) (nonce : List ℕ) : 
   pub step : y.core.starved ≡ x.core.starved → x.core.starved < 2 ^ 64 - 1 →
       has_party link.0 x.core ≡ false
       → (told : Beside) → WereTold x.core told → step (state_of x.core told) (Arrives link.0 nonce)
-      ≡ record {
-        state = record (state_of x.core told) { used = max x.core.servers.used link.0 };
-        acts = refusal link.0 cause;
-      }
+      ≡ reach_step (record (state_of x.core told) { used = max x.core.servers.used link.0 })
+      (refusal link.0 cause)
 
 abbrev pub ServesArrival : Bool → Headless → Headless → LinkId → List ℕ → Type 0
 ServesArrival true x y link nonce = RefusesArrival x y link nonce

@@ -1,13 +1,13 @@
 use Rattle.std.proofs.Common.{ℕ, List, sym, subst, arith, IsUtf8}
 use Rattle.wc_core.specs.Evaluated.{value_at}
 use Rattle.wc_core.specs.Inputs.{Values}
-use Rattle.wc_core.specs.Served.{Does}
 use Rattle.wc_core.specs.Step.{run_value, input_at, evaluation_at}
 use Rattle.wc_core.specs.Typed.{typed_line}
 use Rattle.wc_core.specs.declared.typed_eval.EvalUse.{EvalUse}
 use Rattle.wc_core.proofs.EvalLemmas.{evaluates, evaluates-none, evaluates-not, evaluates-run, evaluates-print, evaluates-test, runs-value, judged-starves}
 use Rattle.wc_core.proofs.TypedLemmas.{typed_utf8, evaluated_text}
 use Rattle.wc_core.proofs.core_state.Core.+input.Goals as goal
+use Rattle.wc_core.specs.Contained.{Runs}
 
 -- ---- a line
 
@@ -30,17 +30,17 @@ evaluate-run_value-requires t c = (omega (arith, c.decreases, c.if-levels-eq0.fa
 
 pub evaluate-returns-in-Run : goal.evaluate-returns-in-Run
 evaluate-returns-in-Run t c =
-    let P : EvalUse → Type 0 = λ usage. Does c.args.self.now c.run_value.new.self (λ state. evaluation_at c.args.levels state c.args.buffer usage c.args.text.now) in
+    let P : EvalUse → Type 0 = λ usage. Runs c.args.self.now c.run_value.new.self (λ state. evaluation_at c.args.levels state c.args.buffer usage c.args.text.now) in
     subst P (sym c.in-Run.is) (evaluates-run c.args.self.now c.run_value.new.self c.args.levels c.args.buffer c.args.text.now (omega (arith, c.if-levels-eq0.false)) c.run_value.ensures)
 
 pub evaluate-returns-in-Print : goal.evaluate-returns-in-Print
 evaluate-returns-in-Print t c =
-    let P : EvalUse → Type 0 = λ usage. Does c.args.self.now c.print_value.new.self (λ state. evaluation_at c.args.levels state c.args.buffer usage c.args.text.now) in
+    let P : EvalUse → Type 0 = λ usage. Runs c.args.self.now c.print_value.new.self (λ state. evaluation_at c.args.levels state c.args.buffer usage c.args.text.now) in
     subst P (sym c.in-Print.is) (evaluates-print c.args.self.now c.print_value.new.self c.args.levels c.args.buffer c.args.text.now (omega (arith, c.if-levels-eq0.false)) c.print_value.ensures)
 
 pub evaluate-returns-in-Test : goal.evaluate-returns-in-Test
 evaluate-returns-in-Test t c =
-    let P : EvalUse → Type 0 = λ usage. Does c.args.self.now c.print_answer.new.self (λ state. evaluation_at c.args.levels state c.args.buffer usage c.args.text.now) in
+    let P : EvalUse → Type 0 = λ usage. Runs c.args.self.now c.print_answer.new.self (λ state. evaluation_at c.args.levels state c.args.buffer usage c.args.text.now) in
     subst P (sym c.in-Test.is) (evaluates-test c.args.self.now c.print_answer.new.self c.args.levels c.args.buffer c.args.text.now (omega (arith, c.if-levels-eq0.false)) c.print_answer.ensures)
 
 -- ---- a value

@@ -9,4 +9,4 @@ pub follow-requires-clause-text : goal.follow-requires-clause-text
 follow-requires-clause-text c = asked-text c.args.link.0 c.args.request c.answer-outcome.result c.args.self.now c.answer-outcome.new.self c.requires.text c.answer-outcome.ensures
 
 pub returns : goal.returns
-returns c = ask-done c.args.self.now c.answer-outcome.new.self c.follow.new.self c.args.link.0 c.args.request c.answer-outcome.result c.answer-outcome.ensures c.requires.text c.follow.ensures.does c.follow.ensures.refused
+returns c = ask-done c.args.self.now c.answer-outcome.new.self c.follow.new.self c.args.link.0 c.args.request c.answer-outcome.result c.requires.opened c.answer-outcome.ensures c.requires.text c.follow.ensures.does c.follow.ensures.refused c.follow.ensures.rises

@@ -1,7 +1,7 @@
 use Rattle.std.proofs.Common.{refl, sym, subst}
 use Rattle.std.specs.Str.{IsUtf8}
 use Rattle.wc_core.specs.Step.{ask_step}
-use Rattle.wc_core.proofs.PushLemmas.{Does-over}
+use Rattle.wc_core.proofs.PushLemmas.{Runs-over}
 use Rattle.wc_core.proofs.CoreLemmas.{asks-made, asks-told, starved_only}
 use Rattle.wc_core.proofs.ResolvedTexts.{what_text, refusal-utf8}
 use Rattle.wc_core.proofs.core_state.Core.ask_change.Goals as goal
@@ -20,5 +20,5 @@ returns-in-Ok-clause-does c = asks-told c.args.self.now c.change.new.self c.tell
 
 pub returns-clause-does : goal.returns-clause-does
 returns-clause-does c =
-    Does-over c.args.self.now c.change.new.self c.starve.new.self (λ state. ask_step state c.args.change) c.in-Some.ensures.refused.stays c.in-Some.ensures.refused.touches
+    Runs-over c.args.self.now c.change.new.self c.starve.new.self (λ state. ask_step state c.args.change) c.in-Some.ensures.refused.stays c.in-Some.ensures.refused.touches
     (starved_only c.change.new.self c.starve.new.self (λ state. ask_step state c.args.change) c.starve.ensures.counts c.starve.ensures.rises)

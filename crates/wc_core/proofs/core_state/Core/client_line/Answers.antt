@@ -1,3 +1,6 @@
+use Rattle.wc_core.specs.Step.{client_link, line_step}
+use Rattle.wc_core.proofs.CoreLemmas.{asker-starves}
+use Rattle.wc_core.proofs.RunLemmas.{here-of, Runs-starved}
 use Rattle.std.proofs.Common.{◌≡◌, sym, subst, ap, ◌∙◌, Some, None, true}
 use Rattle.wc_outside.specs.Keyed.{at_key}
 use Rattle.wc_relaycmd.specs.Answers.{request_of}
@@ -24,4 +27,10 @@ returns-in-Ok-None-clause-does c =
     line-served c.args.self.now c.args.self.now c.args.link.0 c.args.line.now c.in-Some.session.now None
     (subst P c.self.view_is (sym c.in-Some.ensures)) (subst Q c.self.view_is (sym c.is_open.ensures ∙ c.if-not-is_open.false))
     ((rw c.in-Ok-None.field-0-is at c.in-Ok-None.ensures.computed) ∙ ap (λ escaped. request_of escaped c.args.line.now) c.escaped.ensures)
-    (line-passed c.args.self.now (at_key connection_link c.args.link.0 c.args.self.now.connections))
+    (line-passed c.args.link.0 c.args.self.now (at_key connection_link c.args.link.0 c.args.self.now.connections))
+
+pub returns-in-Err-clause-does : goal.returns-in-Err-clause-does
+returns-in-Err-clause-does c =
+    let P : CoreView → Type 0 = λ core. is_open_at (at_key connection_link c.args.link.0 core.connections) ≡ true in
+    let opened = subst P c.self.view_is (sym c.is_open.ensures ∙ c.if-not-is_open.false) in
+    here-of c.args.link.0 c.args.self.now c.lose_asker.new.self (λ state. line_step state c.args.line.now (at_key client_link c.args.link.0 state.clients)) (Runs-starved c.args.self.now c.lose_asker.new.self (λ state. line_step state c.args.line.now (at_key client_link c.args.link.0 state.clients)) (asker-starves c.args.self.now c.lose_asker.new.self c.args.link.0 opened c.lose_asker.ensures.loses c.lose_asker.ensures.rises))

@@ -1,3 +1,4 @@
+use Rattle.wc_core.proofs.CoreLemmas.{starves-as}
 use Rattle.std.proofs.Common.{◌∙◌, ap, Some, None}
 use Rattle.wc_irc.specs.ServerOptions.{delete_refusal}
 use Rattle.wc_servers.specs.Seats.{seat_of, open_of, server_named}
@@ -14,3 +15,6 @@ returns-in-Ok-Some c =
 pub returns-in-Ok-None : goal.returns-in-Ok-None
 returns-in-Ok-None c =
     rw (← c.self.view_is) (deletes-as _ _ c.args.name.now c.is_some-is_linked.result None (c.is_some-is_linked.ensures ∙ linked_found seat_of c.named.result _ c.named.ensures) (rw c.in-Ok-None.field-0-is at c.in-Ok-None.ensures) (deletes-free _ c.del_server-found.new.self c.args.name.now c.del_server-found.ensures.after))
+
+pub returns-in-Err : goal.returns-in-Err
+returns-in-Err c = λ told. starves-as c.args.self.now c.starve.new.self c.starve.ensures.counts c.starve.ensures.rises told _

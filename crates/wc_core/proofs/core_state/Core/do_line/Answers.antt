@@ -1,11 +1,12 @@
-use Rattle.std.proofs.Common.{refl, ap, sym, ◌∙◌, true, false, subst}
+use Rattle.wc_core.proofs.RunLemmas.{Runs-stays}
+use Rattle.std.proofs.Common.{ap, sym, ◌∙◌, subst}
 use Rattle.wc_buffers.specs.Kept.{AreBuffers}
 use Rattle.wc_model.specs.World.{World}
-use Rattle.wc_core.specs.Resolved.{Stays, Ends, Tells, Asks, SetsOption, UnsetsOption, SavesOptions, effect_of}
+use Rattle.wc_core.specs.Resolved.{effect_of, Asks, Ends, SavesOptions, SetsOption, Stays, Tells, UnsetsOption}
 use Rattle.wc_core.specs.Typed.{typed_line}
 use Rattle.wc_core.specs.TypedSeen.{meaning}
 use Rattle.wc_core.proofs.ResolvedTexts.{line-utf8}
-use Rattle.wc_core.proofs.CoreLemmas.{does-resolved}
+use Rattle.wc_core.proofs.CoreLemmas.{does-resolved, starves-as}
 use Rattle.wc_core.proofs.core_state.Core.do_line.Goals as goal
 
 pub tell_refusal-requires : goal.tell_refusal-requires
@@ -48,3 +49,14 @@ returns-in-Ok-Ends c =
     (rw c.in-Ok-Ends.field-0-is at c.in-Ok-Ends.ensures ∙ ap (λ (w : World). effect_of w c.self.inside.moment c.args.buffer typed) c.world-2.ensures.world
     ∙ ap (effect_of c.self.inside.board.world c.self.inside.moment c.args.buffer) c.read_typed-asked.ensures)
     (rw (← c.self.view_is) at c.quit.ensures))
+
+pub returns-in-Err : goal.returns-in-Err
+returns-in-Err c = λ told. starves-as c.args.self.now c.starve.new.self c.starve.ensures.counts c.starve.ensures.rises told _
+
+pub returns-in-Ok-Stays : goal.returns-in-Ok-Stays
+returns-in-Ok-Stays c =
+    let typed = meaning c.read_typed-asked.result in
+    rw (← c.self.view_is) (does-resolved _ _ c.args.buffer (typed_line c.args.line.now) Stays
+    (rw c.in-Ok-Stays.field-0-is at c.in-Ok-Stays.ensures ∙ ap (λ (w : World). effect_of w c.self.inside.moment c.args.buffer typed) c.world-2.ensures.world
+    ∙ ap (effect_of c.self.inside.board.world c.self.inside.moment c.args.buffer) c.read_typed-asked.ensures)
+    (Runs-stays _))

@@ -26,8 +26,9 @@ returns-clause-means c = λ oracle.
       verdicts = c.in_ok-verdicts.verdicts;
       connects = true;
       starved = 0;
+      cuts = 0;
       quits = false;
     } in
     let P : BoardView → Type 0 = λ board. Means (of board no_servers) (first_state oracle c.args.options limit commands) in
     let Q : ServersView → Type 0 = λ servers. Means (of c.in_ok-board.board servers) (first_state oracle c.args.options limit commands) in
-    subst Q (sym c.new-3.ensures) (subst P (sym (c.in_ok-board.ensures ∙ ap first_board c.most_lines.ensures.number)) (first-means oracle c.in_ok-verdicts.verdicts c.args.options limit commands 0 false))
+    subst Q (sym c.new-3.ensures) (subst P (sym (c.in_ok-board.ensures ∙ ap first_board c.most_lines.ensures.number)) (first-means oracle c.in_ok-verdicts.verdicts c.args.options limit commands 0 0 false))

@@ -1,3 +1,4 @@
+use Rattle.wc_core.proofs.CoreLemmas.{starves-as}
 use Rattle.std.proofs.Common.{sym, subst}
 use Rattle.wc_model.specs.declared.change.Change.{Change}
 use Rattle.wc_core.specs.Texts.{WhatUtf8}
@@ -8,3 +9,6 @@ pub ask_change-requires : goal.ask_change-requires
 ask_change-requires c =
     let P : Change → Type 0 = λ change. WhatUtf8 change.what in
     subst P (sym c.in-Ok.ensures) (printed_text c.self.inside.moment c.args.value.now c.requires)
+
+pub returns-in-Err : goal.returns-in-Err
+returns-in-Err c = λ told. starves-as c.args.self.now c.starve.new.self c.starve.ensures.counts c.starve.ensures.rises told _

@@ -1,6 +1,6 @@
 use Rattle.wc_core.specs.Step.{lines_step}
 use Rattle.wc_core.specs.Typed.{lines_of_text}
-use Rattle.wc_core.proofs.StartLemmas.{goes-aside}
+use Rattle.wc_core.proofs.ServeLemmas.{goes-aside}
 use Rattle.wc_core.proofs.core_state.Core.run_input.Goals as goal
 
 pub returns : goal.returns

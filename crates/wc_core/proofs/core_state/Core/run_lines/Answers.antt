@@ -1,12 +1,12 @@
 use Rattle.std.proofs.Common.{ℕ, List, Option, sym, ◌∙◌, subst}
 use Rattle.std.specs.Borrow.{Bor}
 use Rattle.wc_core.specs.Step.{lines_step}
-use Rattle.wc_core.specs.Served.{Does}
 use Rattle.wc_core.specs.TypedSeen.{LeftUtf8, lines_left}
-use Rattle.wc_core.proofs.DidLemmas.{Does-stays}
 use Rattle.wc_core.proofs.TypedLemmas.{first_utf8, others_utf8}
 use Rattle.wc_core.proofs.ServeLemmas.{gone_left, quit_left, more_left}
+use Rattle.wc_core.proofs.RunLemmas.{Runs-stays}
 use Rattle.wc_core.proofs.core_state.Core.run_lines.Goals as goal
+use Rattle.wc_core.specs.Contained.{Runs}
 
 pub run_line-requires-clause-text : goal.run_line-requires-clause-text
 run_line-requires-clause-text c = rw c.split_once.ensures.front (first_utf8 c.in-Some.rest.now (subst LeftUtf8 c.in-Some.is c.loop-left.invariant.text))
@@ -32,5 +32,5 @@ loop-left-preserved c = record {
 
 pub returns : goal.returns
 returns c =
-    let P : Option (Bor (List ℕ)) → Type 0 = λ left. Does c.loop-left.self c.loop-left.self (λ state. lines_step state c.args.buffer (lines_left left)) in
-    c.loop-left.invariant.onward c.loop-left.self (subst P (sym c.in_default.is) (Does-stays c.loop-left.self))
+    let P : Option (Bor (List ℕ)) → Type 0 = λ left. Runs c.loop-left.self c.loop-left.self (λ state. lines_step state c.args.buffer (lines_left left)) in
+    c.loop-left.invariant.onward c.loop-left.self (subst P (sym c.in_default.is) (Runs-stays c.loop-left.self))
