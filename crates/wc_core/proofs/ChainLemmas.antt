@@ -1,8 +1,8 @@
 -- Steps that close no client, one after another.
-use Rattle.std.proofs.Common.{◌≡◌, ◌≢◌, ℕ, Bool, true, false, cond, ◌||◌, inl, inr, Option, None, ap, sym, subst, ◌∙◌, arith}
+use Rattle.std.proofs.Common.{◌≡◌, ◌≢◌, ℕ, Bool, true, false, cond, ◌||◌, inl, inr, Option, None, ap, sym, subst, ◌∙◌, arith, List, ◌++◌}
 use Rattle.wc_text.specs.declared.names.Cause.{Cause}
 use Rattle.wc_core.specs.CoreView.{CoreView}
-use Rattle.wc_core.specs.State.{State, beside, Stepped, has_end}
+use Rattle.wc_core.specs.State.{State, beside, Stepped, has_end, Act}
 use Rattle.wc_core.specs.Step.{then_does}
 use Rattle.wc_board.specs.Connections.{leaving_on}
 use Rattle.wc_board.specs.Served.{StaysOrStarves}
@@ -10,9 +10,9 @@ use Rattle.wc_core.specs.Served.{state_of, or_else, close_of, LeavesBy, Follows}
 use Rattle.wc_core.specs.Contained.{Rest, rest_of, beside_in, state_with, IsOn, IsDone, IsContained, RunsAt, Runs}
 use Rattle.wc_core.proofs.ChangeCloses.{then-closes}
 use Rattle.wc_core.proofs.CountLemmas.{counts-stay}
-use Rattle.wc_core.proofs.DidLemmas.{ClosesLater, or_else-none}
+use Rattle.wc_core.proofs.DidLemmas.{ClosesLater, or_else-none, has_end-append}
 use Rattle.wc_core.proofs.OracleLemmas.{Agrees-before}
-use Rattle.wc_core.proofs.RunLemmas.{IsOn-first, RunsAt-then}
+use Rattle.wc_core.proofs.RunLemmas.{IsOn-first, RunsAt-then, or-more}
 
 abbrev pub ClosesNone : (State → Stepped) → Type 0
 ClosesNone step = (j : ℕ) (state : State) → close_of j (step state).acts ≡ None
@@ -31,24 +31,28 @@ pub stays-by : (a b : CoreView) (j : ℕ) (closes : Option Cause) → closes ≡
 stays-by a b j closes none (inl e) = inl (e ∙ ap (or_else (leaving_on j a.connections)) none ∙ or_else-none (leaving_on j a.connections))
 stays-by a b j closes none (inr e) = e
 
+pub ends-then : (acts more : List Act) → has_end acts ≡ true → has_end (acts ++ more) ≡ true
+ends-then acts more e = has_end-append acts more ∙ ap (λ t. t || has_end more) e
+
 -- a step that closes no one and was cut short, and one that goes on after it
-pub RunsAt-cut : (told : Rest) (a b : CoreView) (s t : Stepped) → ((j : ℕ) → close_of j s.acts ≡ None) → b.cuts ≢ a.cuts → ((x first : State) → IsOn x first s.way → IsOn x first t.way) → RunsAt told a b s → RunsAt told a b t
-RunsAt-cut told a b s t none cut longer f = record {
+pub RunsAt-cut : (told : Rest) (a b : CoreView) (s t : Stepped) → ((j : ℕ) → close_of j s.acts ≡ None) → b.cuts ≢ a.cuts → ((x first : State) → IsOn x first s.way → IsOn x first t.way) → (has_end s.acts ≡ true → has_end t.acts ≡ true) → RunsAt told a b s → RunsAt told a b t
+RunsAt-cut told a b s t none cut longer ends f = record {
   keeps = f.keeps;
   board = f.board;
   counts = f.counts;
   causes = λ here distinct j. inr (stays-by a b j (close_of j s.acts) (none j) (f.causes here distinct j));
   does = λ here same below distinct were agrees. absurd (cut (counts-stay a b f.counts below same));
   contains = λ below distinct were agrees.
-      let part = (f.contains below distinct were agrees).part in
-      record { whole = λ same. absurd (cut same); part = record { state = part.state; is_on = longer part.state (state_with a told) part.is_on; holds = part.holds } };
+      let is = f.contains below distinct were agrees in
+      let part = is.part in
+      record { whole = λ same. absurd (cut same); quits = λ over. or-more a.quits (has_end s.acts) (has_end t.acts) ends (is.quits over); part = record { state = part.state; is_on = longer part.state (state_with a told) part.is_on; holds = part.holds } };
 }
 
 -- the next one is skipped where the first was cut short
 pub Runs-cut : (a b : CoreView) (first next : State → Stepped) → ClosesNone first → b.cuts ≢ a.cuts → Runs a b first → Runs a b (λ state. then_does (first state) next)
 Runs-cut a b first next none cut f = λ told.
     let one = first (state_with a told) in
-    RunsAt-cut told a b one (then_does one next) (λ j. none j (state_with a told)) cut (λ x at on. IsOn-first x at one.way (next one.state).way on) (f told)
+    RunsAt-cut told a b one (then_does one next) (λ j. none j (state_with a told)) cut (λ x at on. IsOn-first x at one.way (next one.state).way on) (ends-then one.acts (next one.state).acts) (f told)
 
 -- what is chosen by what the state says
 pub Runs-as : (a b : CoreView) (step whole : State → Stepped) → ((told : Rest) → step (state_with a told) ≡ whole (state_with a told)) → Runs a b step → Runs a b whole
@@ -64,6 +68,10 @@ ended before after end going e = sym (e ∙ ap (λ t. t || end) going)
 -- a step, and where it does not run `/quit` the next one
 abbrev pub unless_ended : Stepped → (State → Stepped) → Stepped
 unless_ended one next = cond (has_end one.acts) one (then_does one next)
+
+-- the end of the first is that of both
+pub ends_both : (one : Stepped) (next : State → Stepped) → has_end one.acts ≡ true → has_end (unless_ended one next).acts ≡ true
+ends_both one next e = rw e e
 
 -- what is on the way of the first is on that of both
 pub on_both : (one : Stepped) (next : State → Stepped) (x first : State) → IsOn x first one.way → IsOn x first (unless_ended one next).way
@@ -92,6 +100,7 @@ ends-first a b first next none going quit done = λ told.
           record {
             whole = λ same. (let d = is.whole same in subst Q (sym (ended a.quits b.quits (has_end one.acts) going d.quits ∙ quit)) d);
             part = record { state = is.part.state; is_on = on_both one next is.part.state (state_with a told) is.part.is_on; holds = is.part.holds };
+            quits = λ over. or-more a.quits (has_end one.acts) (has_end (unless_ended one next).acts) (ends_both one next) (is.quits over);
           };
     }
 

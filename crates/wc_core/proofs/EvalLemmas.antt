@@ -1,5 +1,5 @@
 -- A text is evaluated, and then something is done with its value.
-use Rattle.std.proofs.Common.{◌≡◌, codes, Result, Ok, Err, IfOk, ℕ, ◌+◌, ◌-◌, ◌^◌, min, ◌<◌, ◌≤◌, Bool, true, false, cond, List, inl, inr, Option, None, IsUtf8, refl, ap, sym, subst, ◌∙◌, arith, zero, suc, [], ◌∷◌, Some, option_map, All, length, length-append, IfSome, decimal, nat_lt}
+use Rattle.std.proofs.Common.{◌≡◌, ◌||◌, codes, Result, Ok, Err, IfOk, ℕ, ◌+◌, ◌-◌, ◌^◌, min, ◌<◌, ◌≤◌, Bool, true, false, cond, List, inl, inr, Option, None, IsUtf8, refl, ap, sym, subst, ◌∙◌, arith, zero, suc, [], ◌∷◌, Some, option_map, All, length, length-append, IfSome, decimal, nat_lt}
 use Rattle.std.specs.Prelude.{unwrap_or, position}
 use Rattle.std.specs.Str.{is_utf8}
 use Rattle.std.proofs.lemmas.Str.{is_utf8-from_IsUtf8, IsUtf8-nil, IsUtf8-from_ascii}
@@ -76,7 +76,7 @@ contained-judged : (told : Rest) (a b c : CoreView) (stepped : Stepped) → b �
 contained-judged told a b c stepped only f =
     let P : CoreView → Type 0 = λ core. IsContained told core c stepped in
     let g : IsContained told (record a { verdicts = b.verdicts }) c stepped = subst P only f in
-    record { whole = λ same. (let d = g.whole same in record { holds = d.holds; is_on = d.is_on; oracle = d.oracle; quits = d.quits; servers = d.servers }); part = g.part }
+    record { whole = λ same. (let d = g.whole same in record { holds = d.holds; is_on = d.is_on; oracle = d.oracle; quits = d.quits; servers = d.servers }); part = g.part; quits = g.quits }
 
 counts-judged : (a b c : CoreView) → b ≡ record a { verdicts = b.verdicts } → Counts 0 b c → Counts 0 a c
 counts-judged a b c only f = Counts-trans a b c (counts-none a b (ap (λ (core : CoreView). starving_number core.connections) only) (ap (λ (core : CoreView). core.starved) only) (ap (λ (core : CoreView). core.cuts) only)) f
@@ -132,6 +132,7 @@ judged-starves a b c step judges counts rises =
           subst T (ap (λ (core : CoreView). leaving_on j core.connections) judges.only) (starves.causes (subst Distinct (sym (keeps-judged a b judges).links) distinct) j);
       counted = λ below. (let more = starves.counted (omega (arith, below, e)) in omega (arith, more, e));
       cut = λ below. (let more = starves.cut (omega (arith, below, cuts)) in omega (arith, more, cuts));
+      quits = starves.quits ∙ ap (λ (core : CoreView). core.quits || false) judges.only;
       holds = λ told were.
           let P : CoreView → Type 0 = λ core. WereTold core (beside_in told) in
           let Q : CoreView → Type 0 = λ core. Holds c (state_with core told) in

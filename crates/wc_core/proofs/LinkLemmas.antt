@@ -118,6 +118,7 @@ module _ (k : ℕ) (old mid new : CoreView) (why : Cause) (step : State → Step
       subst P (sym e) (record {
         whole = λ same. (let d = is.whole same in record { holds = record { same = d.holds.same; told = d.holds.told }; is_on = d.is_on; oracle = d.oracle; quits = d.quits; servers = d.servers });
         part = record { state = is.part.state; is_on = is.part.is_on; holds = record { same = is.part.holds.same; told = is.part.holds.told } };
+        quits = is.quits;
       })
 
   pub loss-counts : Counts (want_number (Some why)) old new

@@ -111,7 +111,7 @@ Runs-over old mid new step e same done =
               record { means = g.means; oracle = g.oracle; bytes = g.bytes; leaving = g.leaving; quits = g.quits; servers = g.servers; parts = g.parts };
           contains = λ below distinct were agrees.
               let is = f.contains below distinct (same-told old mid.pending (beside_in told) same were) agrees in
-              record { whole = λ uncut. (let d = is.whole uncut in record { holds = d.holds; is_on = d.is_on; oracle = d.oracle; quits = d.quits; servers = d.servers }); part = is.part };
+              record { whole = λ uncut. (let d = is.whole uncut in record { holds = d.holds; is_on = d.is_on; oracle = d.oracle; quits = d.quits; servers = d.servers }); part = is.part; quits = is.quits };
         }
 
 -- ---- pushes
@@ -198,7 +198,7 @@ push-done old new is = λ told. record {
   does = λ here same below distinct were agrees.
       let P : List Client → Type 0 = λ clients. Follows (beside_in told) old new (push_step (record (state_with old told) { clients = clients })) in
       subst P (sym here) (by (beside_in told) same below distinct were);
-  contains = λ below distinct were agrees. record { whole = λ uncut. done told; part = record { state = (push_step (state_with old told)).state; is_on = inr refl; holds = (done told).holds } };
+  contains = λ below distinct were agrees. record { whole = λ uncut. done told; quits = λ over. sym (done told).quits ∙ over; part = record { state = (push_step (state_with old told)).state; is_on = inr refl; holds = (done told).holds } };
 } where
   next : CoreView
   next = record old { pending = new.pending; connections = new.connections; starved = new.starved }
@@ -252,6 +252,7 @@ tick-contained old new moment run uncut = λ told below distinct were agrees.
     record {
       whole = λ same. record { holds = holds; is_on = inr refl; oracle = d.oracle; quits = d.quits; servers = d.servers };
       part = record { state = (step (state_of old told) (Tick moment)).state; is_on = inr refl; holds = holds };
+      quits = λ over. sym d.quits ∙ over;
     }
 
 pub tick-counts : (old new : CoreView) (moment : ℕ) → Runs (record old { moment = moment }) new push_step → Counts 0 old new

@@ -1,5 +1,5 @@
 -- How steps that are run follow one another, whatever memory is refused.
-use Rattle.std.proofs.Common.{◌≡◌, ℕ, ◌-◌, ◌^◌, ◌<◌, ◌||◌, List, [], ◌∷◌, ◌++◌, inl, inr, Option, Some, None, refl, ap, sym, subst, ◌∙◌, arith}
+use Rattle.std.proofs.Common.{◌≡◌, ℕ, ◌-◌, ◌^◌, ◌<◌, ◌||◌, Bool, true, false, List, [], ◌∷◌, ◌++◌, inl, inr, Option, Some, None, refl, ap, sym, subst, ◌∙◌, arith}
 use Rattle.wc_session.specs.declared.client.Client.{Client}
 use Rattle.wc_board.specs.Connections.{leaving_on}
 use Rattle.wc_eval.specs.Verdicts.{Oracle, Agrees}
@@ -16,6 +16,7 @@ use Rattle.wc_core.proofs.BoardStepLemmas.{by-any, by-both, by-same}
 use Rattle.wc_core.proofs.OracleLemmas.{Agrees-before}
 use Rattle.wc_core.proofs.CountLemmas.{Counts-refl, Counts-trans}
 use Rattle.wc_core.proofs.DidLemmas.{or-false, leaves-none, has_end-append, outs_of-append, or-assoc, KeepsClients-refl, KeepsClients-trans, Follows-stays, Follows-then, ClosesLater, causes-then}
+use Rattle.std.proofs.lemmas.Bool.{false≢true}
 
 -- ---- the way of a step
 
@@ -52,7 +53,7 @@ pub done-none : (told : Rest) (a : CoreView) → WereTold a (beside_in told) →
 done-none told a were = record { holds = Holds-same a told were; is_on = refl; oracle = refl; quits = sym (or-false a.quits); servers = ServersFollow-refl a.servers }
 
 pub contained-none : (told : Rest) (a : CoreView) → WereTold a (beside_in told) → IsContained told a a (no_step (state_with a told))
-contained-none told a were = record { whole = λ same. done-none told a were; part = record { state = state_with a told; is_on = refl; holds = Holds-same a told were } }
+contained-none told a were = record { whole = λ same. done-none told a were; part = record { state = state_with a told; is_on = refl; holds = Holds-same a told were }; quits = λ over. or-false a.quits ∙ over }
 
 -- ---- a step of which no growth was refused
 
@@ -73,6 +74,7 @@ RunsAt-exact told a b of keeps board counts leaves did done = record {
   contains = λ below distinct were agrees. record {
     whole = λ same. done distinct were;
     part = record { state = (of told.clients).state; is_on = (done distinct were).is_on; holds = (done distinct were).holds };
+    quits = λ over. sym (done distinct were).quits ∙ over;
   };
 }
 
@@ -81,10 +83,14 @@ Runs-stays a = λ told.
     let of : List Client → Stepped = λ clients. no_step (record (state_with a told) { clients = clients }) in
     RunsAt-exact told a a of (KeepsClients-refl a) (by-same (board_of a) (board_of a) refl) (Counts-refl a) (λ distinct. leaves-none a (of (clients_of a.connections)) (λ j. refl)) (λ distinct were. Follows-stays (beside_in told) a were) (λ distinct were. done-none told a were)
 
+pub or-more : (a b c : Bool) → (b ≡ true → c ≡ true) → (a || b) ≡ true → (a || c) ≡ true
+or-more true b c more e = refl
+or-more false b c more e = more e
+
 -- ---- memory was refused at the begin
 
-pub RunsAt-starved : {own : Option ℕ} → (told : Rest) (a b : CoreView) (stepped : Stepped) → RanOutFor own a b → RunsBy own told a b stepped
-RunsAt-starved told a b stepped f = record {
+pub RunsAt-short : {own : Option ℕ} → (told : Rest) (a b : CoreView) (stepped : Stepped) (ends : Bool) → (ends ≡ true → has_end stepped.acts ≡ true) → RanOutFor own ends a b → RunsBy own told a b stepped
+RunsAt-short told a b stepped ends reaches f = record {
   keeps = f.keeps;
   board = f.board;
   counts = f.counts;
@@ -93,10 +99,14 @@ RunsAt-starved told a b stepped f = record {
   contains = λ below distinct were agrees. record {
     whole = λ same. (let more = f.cut below in absurd (omega (arith, more, same)));
     part = record { state = state_with a told; is_on = IsOn-begin (state_with a told) stepped.way; holds = f.holds told were };
+    quits = λ over. or-more a.quits ends (has_end stepped.acts) reaches (sym f.quits ∙ over);
   };
 }
 
-pub Runs-starved : {own : Option ℕ} → (a b : CoreView) (step : State → Stepped) → RanOutFor own a b → RunsFor own a b step
+pub RunsAt-starved : {own : Option ℕ} → (told : Rest) (a b : CoreView) (stepped : Stepped) → RanOutFor own false a b → RunsBy own told a b stepped
+RunsAt-starved told a b stepped f = RunsAt-short told a b stepped false (λ q. absurd (false≢true q)) f
+
+pub Runs-starved : {own : Option ℕ} → (a b : CoreView) (step : State → Stepped) → RanOutFor own false a b → RunsFor own a b step
 Runs-starved a b step f = λ told. RunsAt-starved told a b (step (state_with a told)) f
 
 -- ---- one step after another
@@ -155,6 +165,9 @@ RunsAt-then {own} told a b c first next closes uncut f run = record {
           is_on = IsOn-then more.part.state first.state (state_with a told) first.way (next first.state).way one.is_on (subst R (sym one.holds.same) more.part.is_on);
           holds = more.part.holds;
         };
+        quits = λ over.
+            ap (λ t. a.quits || t) (has_end-append first.acts (next first.state).acts) ∙ sym (or-assoc a.quits (has_end first.acts) (has_end (next first.state).acts)) ∙ ap (λ t. t || has_end (next first.state).acts) (sym one.quits)
+            ∙ more.quits over;
       }
 
 -- ---- for whom

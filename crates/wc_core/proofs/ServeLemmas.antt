@@ -40,7 +40,7 @@ use Rattle.wc_core.proofs.RunLemmas.{Runs-stays}
 use Rattle.wc_core.proofs.CloseLemmas.{input-closes, runs-closes}
 use Rattle.wc_core.proofs.ConnectionLemmas.{sent-sends, close-sends, outs-sends, end-sends, close-told, outs-told, end-told, told-clients, told-leaving, told-bytes, clients-put, clients-leave}
 use Rattle.wc_board.proofs.ConnectionLemmas.{ConnectionsKept-links, ConnectionsKept-leaving}
-use Rattle.wc_core.proofs.ChainLemmas.{on_both, ends-first, goes-on, RunsAt-cut}
+use Rattle.wc_core.proofs.ChainLemmas.{on_both, ends-first, goes-on, RunsAt-cut, ends_both}
 use Rattle.wc_core.proofs.OracleLemmas.{verdicts-same, Stay-refl}
 use Rattle.wc_core.specs.Changing.{reach_step}
 
@@ -222,7 +222,9 @@ stops-cut a b buffer line cut f = λ lines there told.
     let one = input_step state buffer line in
     let longer : (x first : State) → IsOn x first one.way → IsOn x first (lines_step state buffer (line ∷ lines)).way =
     λ x first on. (let P : Stepped → Type 0 = λ s. IsOn x first s.way in runs-there P state buffer line lines there (on_both one (λ next. lines_step next buffer lines) x first on)) in
-    RunsAt-cut told a b one (lines_step state buffer (line ∷ lines)) (λ j. input-closes j state buffer line) cut longer (f told)
+    let ends : has_end one.acts ≡ true → has_end (lines_step state buffer (line ∷ lines)).acts ≡ true =
+    λ e. (let P : Stepped → Type 0 = λ s. has_end s.acts ≡ true in runs-there P state buffer line lines there (ends_both one (λ next. lines_step next buffer lines) e)) in
+    RunsAt-cut told a b one (lines_step state buffer (line ∷ lines)) (λ j. input-closes j state buffer line) cut longer ends (f told)
 
 left_lines : (left : Option (Bor (List ℕ))) (rest : Bor (List ℕ)) (line : List ℕ) (others : Option (Bor (List ℕ))) → left ≡ Some rest → line ≡ before 10 rest.now → option_copied others ≡ text_after 10 rest.now → line ∷ lines_left others ≡ lines_left left
 left_lines left rest line others e front back = ap (λ l. l ∷ lines_left others) front ∙ lines_left-split rest.now others back ∙ sym (ap lines_left e)
@@ -258,6 +260,11 @@ goes-aside old mid quit' quit step going was run =
     let Q : Bool → Type 0 = λ quit. Runs old (record mid { quits = mid.quits || quit }) step in
     subst Q (sym was) (aside (subst P going run))
   where
+    or-aside : (a b c : Bool) → (a ≡ true → (false || c) ≡ true) → (a || b) ≡ true → (b || c) ≡ true
+    or-aside a true c more e = refl
+    or-aside true false c more e = more refl
+    or-aside false false c more e = absurd (false≢true e)
+
     or-turned : (a b : Bool) → ((false || a) || b) ≡ (b || a)
     or-turned true true = refl
     or-turned true false = refl
@@ -280,5 +287,6 @@ goes-aside old mid quit' quit step going was run =
               record {
                 whole = λ same. (let d = is.whole same in record { holds = record { same = d.holds.same; told = d.holds.told }; is_on = d.is_on; oracle = d.oracle; quits = ap (λ t. t || old.quits) d.quits ∙ or-turned _ old.quits; servers = d.servers });
                 part = record { state = is.part.state; is_on = is.part.is_on; holds = record { same = is.part.holds.same; told = is.part.holds.told } };
+                quits = λ over. or-aside mid.quits old.quits (has_end (step (state_with old told)).acts) is.quits over;
               };
         }

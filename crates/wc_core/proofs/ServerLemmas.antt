@@ -21,12 +21,12 @@ use Rattle.wc_core.specs.ServerTyped.{seat_step}
 use Rattle.wc_core.specs.Served.{sent_to, close_of, outs_of, clients_of}
 use Rattle.wc_core.specs.ServersKept.{LeaveInOrder, ServersKeep, left_after}
 use Rattle.wc_core.proofs.ComeLemmas.{come-put, order-put, left_one, come-left, order-left, come-begun, order-begun, come-quit, order-quit}
-use Rattle.wc_core.proofs.DidLemmas.{or-false, or-true, leaves-none, KeepsClients-connections, saves-as}
+use Rattle.wc_core.proofs.DidLemmas.{or-false, or-true, leaves-none, KeepsClients-connections, saves-as, has_end-append}
 use Rattle.wc_core.proofs.ServerCloses.{out-closes}
 use Rattle.wc_core.proofs.ChainLemmas.{Runs-as}
 use Rattle.wc_core.specs.Contained.{Rest, state_with, Runs, Holds, IsOn, starving_number}
 use Rattle.wc_session.specs.declared.client.Client.{Client}
-use Rattle.wc_core.proofs.RunLemmas.{Runs-starved, Runs-stays, RunsAt-exact}
+use Rattle.wc_core.proofs.RunLemmas.{Runs-stays, RunsAt-exact, RunsAt-short}
 use Rattle.wc_core.proofs.CountLemmas.{counts-none, counts-short}
 use Rattle.wc_core.proofs.BoardStepLemmas.{by-same}
 
@@ -189,6 +189,12 @@ quits old servers are e =
     subst P (sym e)
     (serves-by old whole true outs (Quits ∷ []) (λ state. []) quit_step (λ told. ap (F told) (sym now)) (λ told. ap (G told) now) (λ j. refl) (λ j. refl) refl (sym (or-true old.quits)) (come-quit old.servers whole.seats (may_quit_all old.servers.seats)) (quit-follows old.servers are.apart) (order-quit old.servers whole.seats (may_quit_all old.servers.seats)))
 
+-- the step of `/quit` ends the run
+quit-ends : (state : State) → has_end (quit_step state).acts ≡ true
+quit-ends state =
+    let told : List Act = map Serves (flat_map quit_outs state.servers) in
+    has_end-append told (Quits ∷ []) ∙ or-true (has_end told)
+
 -- not all of them are, since memory was refused
 pub quits-starved : (old new : CoreView) (servers : ServersView) → MayQuit old.servers.seats servers.seats → servers ≡ record old.servers { seats = servers.seats } → new ≡ record old { servers = servers; quits = true; starved = min (old.starved + 1) (2 ^ 64 - 1); cuts = min (old.cuts + 1) (2 ^ 64 - 1) } → old.starved ≤ new.starved
     → Runs old new quit_step
@@ -197,7 +203,7 @@ quits-starved old new servers m e counts rises =
     let same : new.servers ≡ all = ap (λ (core : CoreView). core.servers) counts ∙ e in
     let count : new.starved ≡ min (old.starved + 1) (2 ^ 64 - 1) = ap (λ (core : CoreView). core.starved) counts in
     let P : ServersView → Type 0 = λ servers. ServersKeep old.servers servers in
-    Runs-starved old new quit_step (record {
+    (λ told. RunsAt-short told old new (quit_step (state_with old told)) true (λ q. quit-ends (state_with old told)) (record {
       keeps = KeepsClients-connections old new (ap board_of counts) rises (saves-as old new (record old { servers = servers; quits = true; starved = min (old.starved + 1) (2 ^ 64 - 1); cuts = min (old.cuts + 1) (2 ^ 64 - 1) }) counts refl refl) (subst P (sym same) (come-quit old.servers servers.seats m)) (ap (λ (core : CoreView). core.verdicts) counts);
       board = by-same (board_of old) (board_of new) (ap board_of counts);
       counts = counts-short old new (ap (λ (core : CoreView). starving_number core.connections) counts) count (ap (λ (core : CoreView). core.cuts) counts);
@@ -210,4 +216,5 @@ quits-starved old new servers m e counts rises =
           let Q : CoreView → Type 0 = λ c. Holds c (state_with old told) in
           let R : ServersView → Type 0 = λ servers. Holds (C servers) (state_with old told) in
           subst Q (sym counts) (subst R (sym e) (record { same = ap F (sym (may_quit_open old.servers.seats servers.seats m)); told = were }));
-    })
+      quits = ap (λ (core : CoreView). core.quits) counts ∙ sym (or-true old.quits);
+    }))

@@ -84,10 +84,11 @@ pub record IsDone (told : Rest) (old new : CoreView) (stepped : Stepped) : Type 
   pub servers : ServersFollow old.servers new.servers (outs_of stepped.acts)
 
 -- Where no input was cut short all of a step is done, and else a part of it, up to some state on its
--- way, and nothing after that.
+-- way, and nothing after that. The run is to end only where the step has that.
 pub record IsContained (told : Rest) (old new : CoreView) (stepped : Stepped) : Type 0 where
   pub whole : new.cuts ≡ old.cuts → IsDone told old new stepped
   pub part : CameTo new (state_with old told) stepped.way
+  pub quits : new.quits ≡ true → (old.quits || has_end stepped.acts) ≡ true
 
 -- the same of the step of each state that the core meant before
 abbrev pub Contains : CoreView → CoreView → (State → Stepped) → Type 0
@@ -172,8 +173,8 @@ abbrev pub RunsHere : ℕ → CoreView → CoreView → (State → Stepped) → 
 RunsHere link old new step = (told : Beside) →
     RunsBy (Some link) (rest_in old told) old new (step (state_of old told))
 
--- memory was refused at the begin of an input, which is cut short
-pub record RanOutFor (own : Option ℕ) (old new : CoreView) : Type 0 where
+-- memory was refused at the begin of an input, which is cut short, though it may have the run end
+pub record RanOutFor (own : Option ℕ) (ends : Bool) (old new : CoreView) : Type 0 where
   pub keeps : KeepsClients old new
   pub board : StepsBy own (board_of old) (board_of new)
   pub counts : Counts 0 old new
@@ -182,9 +183,10 @@ pub record RanOutFor (own : Option ℕ) (old new : CoreView) : Type 0 where
   pub counted : old.starved < 2 ^ 64 - 1 → old.starved < new.starved
   pub cut : old.cuts < 2 ^ 64 - 1 → old.cuts < new.cuts
   pub holds : (told : Rest) → WereTold old (beside_in told) → Holds new (state_with old told)
+  pub quits : new.quits ≡ (old.quits || ends)
 
 abbrev pub RanOutOfMemory : CoreView → CoreView → Type 0
-RanOutOfMemory old new = RanOutFor None old new
+RanOutOfMemory old new = RanOutFor None false old new
 
 -- The client of a link found no memory for what it asked: it leaves, unless it does already, and what
 -- it asked is cut short.

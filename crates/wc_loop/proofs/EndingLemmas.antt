@@ -124,6 +124,7 @@ closes-last opening contents x h start before after counts f headline = record {
   agrees = f.agrees;
   turn = f.turn;
   causes = f.causes;
+  closes = f.closes;
 }
 
 -- however the run ended

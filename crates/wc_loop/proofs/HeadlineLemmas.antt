@@ -35,7 +35,7 @@ use Rattle.wc_turns.specs.Heard.{Heard}
 use Rattle.wc_turns.specs.Hands.{IsFrontOf}
 use Rattle.wc_turns.specs.Links.{link_number}
 use Rattle.wc_turns.specs.Parties.{has_party, unsent_on, owed_to, asks_of, asks_in, seat_closes, IsCalm}
-use Rattle.wc_loop.specs.Headline.{state_before, held_if, HandsOut, Headline, IsConfigured, IsFirst, NothingTaken, has_party_in}
+use Rattle.wc_loop.specs.Headline.{state_before, held_if, HandsOut, Headline, IsConfigured, IsFirst, NothingTaken, has_party_in, TakesEach}
 use Rattle.wc_loop.specs.Words.{Opening}
 use Rattle.wc_turns.specs.Served.{ReachesEvents, NobodyLeaving, closed_by, leaving_closes}
 use Rattle.wc_turns.proofs.RunLemmas.{up_to_quit-front}
@@ -277,6 +277,27 @@ HandsOut-run first last a b port h f new listened calm t fed rows were judged =
           sym (append-nil b.asked) ∙ sym (ap (λ (w : List Wanted). b.asked ++ asks_of w) calm.asked) ∙ advances.asks ∙ ap (λ (s : ServersView). (a.asked ++ asks_of s.wanted) ++ asks_in acts) f.servers
           ∙ ap (λ (xs : List Asked). (xs ++ []) ++ asks_in acts) (listened told);
     }
+
+-- what the core came to by it
+pub TakesEach-run : {n f : ℕ} (opening : Opening) (contents : Option (List ℕ)) (first last : Headless) (a b : Seen) (port : ℕ) → IfSome contents (IsConfigured opening first port) → LoopStep false n f first last a b → IsFirst first → NothingTaken a → TakesEach opening contents b last
+unfolding AgreesWithSockets-first
+TakesEach-run opening None first last a b port known h f new = tt
+TakesEach-run opening (Some kept) first last a b port known h f new = rw known.set (λ t.
+    let told = h.told t in
+    let agrees = AgreesWithSockets-first first a f new in
+    let after = h.agrees agrees in
+    let start : agrees.history ≡ [] = refl in
+    let all : h.heard ≡ after.history = sym (h.adds agrees ∙ ap (λ past. past ++ h.heard) start) in
+    let goes = h.goes t agrees in
+    record {
+      first = first.core;
+      means = known.means;
+      history = after.history;
+      spells = after.spells t;
+      events = goes.events;
+      reaches = reaches-from _ _ _ _ agrees.history h.heard after.history _ f.quits f.ran start all goes.reaches;
+      goes = goes.goes;
+    })
 
 -- the listener was opened at new sockets
 pub Fresh-listening : (a b : Seen) → IsNew a → (IsTrue b.tells → IsTrue a.tells) → (IsTrue b.tells → b.taken ≡ a.taken ++ []) → (IsTrue b.tells → (k : ℕ) → b.sent k ≡ a.sent k)

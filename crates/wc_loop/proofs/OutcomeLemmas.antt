@@ -13,7 +13,7 @@ use Rattle.wc_loop.specs.declared.words.Shows.TheVariants as shows
 use Rattle.wc_loop.specs.declared.words.Wish.{Wish}
 use Rattle.wc_loop.proofs.OptionsLemmas.{some_port}
 use Rattle.wc_loop.specs.Demo.{demo_text, IsDemoEnd, PrintsDemo, IfDemo, IfDemoShown}
-use Rattle.wc_loop.specs.Headline.{Headline}
+use Rattle.wc_loop.specs.Headline.{Headline, TakesEach}
 use Rattle.wc_loop.specs.Words.{Opening}
 use Rattle.wc_turns.specs.Sources.{AllServed, AllSent}
 use Rattle.wc_turns.specs.Parties.{IsCalm}
@@ -190,6 +190,10 @@ module _ (opening : Opening) where
   pub IfSome-headline : (last : Option Headless) (contents : Option (List ℕ)) (before after : Seen) → IfSome last (IsLastState opening contents before after) → IfSome last (Headline opening contents after)
   IfSome-headline None contents before after left = tt
   IfSome-headline (Some last) contents before after left = left.headline
+
+  pub IfSome-takes : (last : Option Headless) (contents : Option (List ℕ)) (before after : Seen) → IfSome last (IsLastState opening contents before after) → IfSome last (TakesEach opening contents after)
+  IfSome-takes None contents before after left = tt
+  IfSome-takes (Some last) contents before after left = left.takes
 
   pub IfSome-agrees : (last : Option Headless) (contents : Option (List ℕ)) (before after : Seen) → IfSome last (IsLastState opening contents before after) → IfSome last (λ last. AgreesWithSockets last after)
   IfSome-agrees None contents before after left = tt

@@ -27,11 +27,11 @@ use Rattle.wc_core.specs.Limits.{port_of}
 use Rattle.wc_demo.specs.declared.counts.Counts.{Counts}
 use Rattle.wc_demo.specs.Counts.{none_counted}
 use Rattle.wc_loop.specs.Demo.{line_of, demo_text, IsDemoEnd}
-use Rattle.wc_loop.specs.Headline.{Headline}
+use Rattle.wc_loop.specs.Headline.{Headline, TakesEach}
 use Rattle.wc_turns.specs.Parties.{IsCalm}
 use Rattle.wc_loop.specs.Words.{Opening}
 use Rattle.wc_turns.specs.Sources.{AllServed, AllSent}
-use Rattle.wc_turns.specs.Turns.{AgreesWithSockets, HasCause as HasCloseCause, wake_count}
+use Rattle.wc_turns.specs.Turns.{AgreesWithSockets, HasCause as HasCloseCause, wake_count, ClosesExactly}
 use Rattle.wc_turns.specs.Turns.{listen_faults, FaultsIn, LoopStep, TurnStep}
 
 -- the state at the end is there where a wait returned
@@ -294,8 +294,10 @@ IsEarly contents kept kept' TurnsTaken = ⊥
 IsEarly contents kept kept' Quit = ⊥
 IsEarly contents kept kept' (Demo lines counts) = ⊥
 
--- The links that the last turn closed have their causes in it, as far as they are not those of servers.
--- The state before that turn is one that this run came to, and what was seen then came after the start.
+-- The links that the last turn closed are, in order, those that the core closes at the events of that
+-- turn, unless some growth was refused, and they have their causes in it, as far as they are not those
+-- of servers. The state before that turn is one that this run came to, and what was seen then came after
+-- the start.
 pub record ClosesLast (opening : Opening) (contents : Option (List ℕ)) (before after : Seen)
     (last : Headless) : Type 0 where
   -- the state before the last turn, and what was seen then
@@ -307,6 +309,7 @@ pub record ClosesLast (opening : Opening) (contents : Option (List ℕ)) (before
   pub agrees : AgreesWithSockets earlier seen
   pub turn : TurnStep end earlier last seen after
   pub causes : All (HasCloseCause earlier last seen after) last.links.closed.items
+  pub closes : ClosesExactly earlier last seen after
 
 -- the last of some turns, the first of which began so
 pub record LastTurn (first last : Headless) (before after : Seen) : Type 0 where
@@ -319,11 +322,13 @@ pub record LastTurn (first last : Headless) (before after : Seen) : Type 0 where
   pub calm : IsCalm earlier.core
   pub turn : TurnStep end earlier last seen after
   pub causes : All (HasCloseCause earlier last seen after) last.links.closed.items
+  pub closes : ClosesExactly earlier last seen after
 
 -- the state after the last turn
 pub record IsLastState (opening : Opening) (contents : Option (List ℕ)) (before after : Seen)
     (last : Headless) : Type 0 where
   pub headline : Headline opening contents after last
+  pub takes : TakesEach opening contents after last
   pub agrees : AgreesWithSockets last after
   pub calm : IsCalm last.core
   pub causes : ClosesLast opening contents before after last

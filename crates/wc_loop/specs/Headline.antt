@@ -32,6 +32,8 @@ use Rattle.wc_turns.specs.Served.{ReachesEvents}
 use Rattle.wc_turns.specs.Turns.{moment, point, QuitsWithin, EndsEach}
 use Rattle.wc_core.specs.State.{beside}
 use Rattle.wc_eval.specs.Verdicts.{Oracle, Agrees}
+use Rattle.wc_core.specs.CoreView.{CoreView}
+use Rattle.wc_turns.specs.Goes.{Goes}
 
 -- the state before the start, where texts are judged so
 abbrev pub state_before : Oracle → OptionsValue → Opening → State
@@ -107,6 +109,25 @@ ClientsHoldDumps opening contents seen last =
     → ShowsPart which (most_lines options) id (seen.sent link ++ unsent_on link last.core.connections)
     (state_of last.core
     (beside (run (state_before oracle options opening) handed.events).state))))
+
+-- What the core came to, whatever memory was refused: the events that were reached were taken in
+-- order, each done whole or cut short, and nothing else changed its state but losses that no event
+-- tells of.
+pub record CameBy (opening : Opening) (options : OptionsValue) (seen : Seen) (last : Headless) :
+    Type 0 where
+  pub first : CoreView
+  pub means : (oracle : Oracle) → Means first (state_before oracle options opening)
+  pub history : List Heard
+  pub spells : happenings history ≡ seen.taken
+  pub events : List Event
+  pub reaches : ReachesEvents false last.core.quits 0 last.ran (whole history) events
+  pub goes : Goes events first last.core
+
+-- the same of a run that begins so, where the sockets and the keeper tell what they hold
+abbrev pub TakesEach : Opening → Option (List ℕ) → Seen → Headless → Type 0
+TakesEach opening contents seen last =
+    IfSome contents (λ configuration. IfOk (config_of configuration)
+    (λ options. IsTrue seen.tells → CameBy opening options seen last))
 
 -- a state and a port that a configuration sets
 pub record IsConfigured (opening : Opening) (headless : Headless) (port : ℕ)

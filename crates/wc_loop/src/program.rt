@@ -7,7 +7,7 @@ ghost use Rattle.wc_loop.specs.Demo.{PrintsDemo, IsDemoEnd, IfDemo};
 ghost use Rattle.wc_loop.specs.Endings.{LastOf, StatusOf, WaitsAtMost, Prints, HasCause, RunsBy};
 ghost use Rattle.wc_loop.specs.Endings.{asks_turns, IsAsked, status_of, ending_text, KeepsText};
 ghost use Rattle.wc_loop.specs.Endings.{HoldsEarlier, HoldsSaved, ClosesLast};
-ghost use Rattle.wc_loop.specs.Headline.{Headline, ClientsHoldDumps};
+ghost use Rattle.wc_loop.specs.Headline.{Headline, TakesEach, ClientsHoldDumps};
 ghost use Rattle.wc_turns.specs.Parties.{IsCalm};
 ghost use Rattle.wc_turns.specs.Sources.{AllServed, AllSent};
 ghost use Rattle.wc_loop.specs.Words.{opening_of, wish_of};
@@ -154,6 +154,9 @@ pub fn run_program<S: Sockets, K: Keeper, O: Sink>(
 ) -> Ended
     requires { IsNew (S.seen sockets.old) }
     ensures headline { IfSome result.last (Headline
+        (opening_of (map string_bytes words.now.items)) (K.contents keeper.old)
+        (S.seen sockets.new)) }
+    ensures contained { IfSome result.last (TakesEach
         (opening_of (map string_bytes words.now.items)) (K.contents keeper.old)
         (S.seen sockets.new)) }
     ensures mirrored { IfSome result.last (ClientsHoldDumps

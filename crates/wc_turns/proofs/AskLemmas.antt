@@ -36,7 +36,7 @@ use Rattle.wc_turns.specs.Turns.{AgreesWithHappenings, AgreesOnLinks, AgreesWith
 use Rattle.wc_turns.specs.Heard.{Heard, Happened, happenings}
 use Rattle.wc_turns.specs.Turns.{AgreesWithHeard, EndsEach}
 use Rattle.wc_turns.proofs.HeardLemmas.{quiet-happened, socket-stays}
-use Rattle.wc_turns.proofs.HeardAgrees.{Hears-quiet, Hears-asked, Hears-used, socket-came}
+use Rattle.wc_turns.proofs.HeardAgrees.{Hears-quiet, Hears-asked, socket-came}
 use Rattle.wc_turns.proofs.KeyedLemmas.{none_of, same-keys, or-true, is_some-push, at_key-push_other, at_key-without_none, absent-missing, distinct-push, distinct-without, map-push, length-without_le}
 use Rattle.wc_turns.proofs.ArriveLemmas.{no-starving}
 use Rattle.wc_turns.proofs.ComeLemmas.{came-flag}
@@ -57,6 +57,8 @@ use Rattle.wc_turns.proofs.ReadLemmas.{lost-has, lost-count, some-first, some-se
 use Rattle.wc_turns.proofs.TurnLemmas.{AskingCall, LoopStep-ask}
 use Rattle.wc_eval.specs.Verdicts.{Stay}
 use Rattle.wc_core.proofs.OracleLemmas.{verdicts-same}
+use Rattle.wc_turns.specs.Goes.{KeepsState}
+use Rattle.wc_turns.proofs.GoesLemmas.{Goes-both, Goes-kept, Goes-dropped}
 
 -- the core with other connections that are still to be asked for
 abbrev pub with_wanted : List Wanted → CoreView → CoreView
@@ -150,6 +152,10 @@ wanted-party x a wanted others first s k e = s.among.parties k ∙ ap (λ ws. is
 pub wanted-next : (x : Headless) (a : Seen) (wanted : Wanted) (others : List Wanted) → x.core.servers.wanted ≡ wanted ∷ others → AgreesWithSockets x a → wanted.link.0 ≡ x.used + 1
 wanted-next x a wanted others first s = (subst (AreNext x.used) first s.among.next).0
 
+-- the state stays where connections are asked for
+pub wanted-kept : (x y : CoreView) (others : List Wanted) → y ≡ with_wanted others x → KeepsState x y
+wanted-kept x y others e = let P : CoreView → Type 0 = λ c. KeepsState x c in subst P (sym e) (record { state = λ told. refl; pending = refl; starved = refl; quits = refl })
+
 -- a connection was refused, and it is listed
 pub LoopStep-unmade : (x x' y : Headless) (a b : Seen) (wanted : Wanted) (others : List Wanted) → x.core.servers.wanted ≡ wanted ∷ others → x' ≡ record x { core = with_wanted others x.core } → TakesLink x' y wanted true → AgreesWithSockets x a → AskingCall a b (Refused wanted.link ∷ []) (wanted.address ∷ [])
     → b.used ≡ a.used + 1 → (IsTrue b.tells → b.asked ≡ a.asked ++ connect_of wanted ∷ []) → (IsTrue b.tells → (k : ℕ) → b.sent k ≡ a.sent k) → (IsTrue b.tells → (k : ℕ) → b.choked k ≡ a.choked k) → ((k : ℕ) → b.there k ≡ a.there k) → ((k : ℕ) → b.undrained k ≡ a.undrained k) → ((k : ℕ) → b.blocked k ≡ a.blocked k) → b.listening ≡ a.listening
@@ -168,6 +174,7 @@ LoopStep-unmade x x' y a b wanted others first same takes s' call used asked sen
       reaches = rw ran (ReachesEvents-none x.core.quits y.core.quits x.ran);
       rises = (let e = ap (λ (c : CoreView). c.starved) core in omega arith);
       verdicts = verdicts-same x.core.verdicts y.core.verdicts (ap (λ (c : CoreView). c.verdicts) core);
+      goes = Goes-kept x.core y.core (wanted-kept x.core y.core others core);
       advances = λ still below rows were agrees. advances t rows were;
       silent = λ over. refl;
       ends = (tt, tt);
@@ -419,6 +426,7 @@ LoopStep-dropped refused given heard x x' y a b wanted others first same drops s
       reaches = rw (ran, nothing s.history) (ReachesEvents-none x.core.quits y.core.quits x.ran);
       rises = (let r = d.loses.keeps.rises in let e = ap (λ (c : CoreView). c.starved) d.core in omega arith);
       verdicts = subst (Stay x.core.verdicts) (sym (ap (λ (c : CoreView). c.verdicts) d.core)) d.loses.keeps.verdicts;
+      goes = Goes-both [] [] x.core (with_wanted others x.core) y.core (Goes-kept x.core (with_wanted others x.core) (wanted-kept x.core (with_wanted others x.core) others refl)) (Goes-dropped wanted.link.0 (with_wanted others x.core) y.core (record { lost = d.lost; loses = d.loses.whole; gone = d.loses.gone; forgets = d.core }));
       advances = λ still below rows were agrees. no-starving x.core.starved y.core.starved d.starved still below;
       silent = λ over. rw spells gives;
       ends = ends s.history;

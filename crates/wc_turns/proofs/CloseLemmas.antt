@@ -40,6 +40,7 @@ use Rattle.wc_turns.proofs.GoneLemmas.{some-given, gone-links, gone-closes, gone
 use Rattle.wc_turns.proofs.StepLemmas.{SameSets, among-same, OnlyLinks, LoopStep-flags}
 use Rattle.wc_turns.proofs.TurnLemmas.{Call, LoopStep-step, LoopStep-still, NeverFall-refl}
 use Rattle.wc_core.proofs.OracleLemmas.{verdicts-same}
+use Rattle.wc_turns.proofs.GoesLemmas.{Goes-same, Goes-kept}
 
 -- what the core means stays where the state does
 pub core-means : (old new : CoreView) (told : Beside) → state_of new told ≡ state_of old told → new.world ≡ old.world → new.pending ≡ old.pending → WereTold old told → Means new (state_of old told)
@@ -52,6 +53,7 @@ LoopStep-quiet x a b call sent choked asked same =
     (among-same x.links.opened.items x.core x.used x.listening x.refused.items a b same)
     (λ t s. s) (λ t history s. s) (λ k e. e)
     (λ t s rows were. MomentAdvances-same rows (moment x a) (moment x b) refl refl (sent t) (choked t) (ap (λ xs. xs ++ asks_of x.core.servers.wanted) (asked t)) [] (call.taken t) [] refl were tt)
+    (λ s. Goes-same x.core x.core refl)
 
 pub SameSets-refl : (a : Seen) → SameSets a a
 SameSets-refl a = record { used = refl; there = λ k. refl; undrained = λ k. refl; blocked = λ k. refl; listening = refl }
@@ -120,6 +122,7 @@ LoopStep-sent x a b link count bytes u call sent choked asked same =
     (λ k plain gone. gone-nothing k link count x.core bytes (a.sent k) (b.sent k) u (gone-nobody k x.used x.core gone) (sent t k))
     (gone-sides link count x.core o refl)
     (ap (λ xs. xs ++ asks_of core.servers.wanted) (asked t) ∙ ap (λ ws. a.asked ++ asks_of ws) wanted))
+    (λ s. Goes-kept x.core core (record { state = λ told. gone-state link count x.core o refl told; pending = gone-pending link count x.core o; starved = gone-starved link count x.core o; quits = gone-quits link count x.core o }))
 
 -- where nothing is sent, whatever link is asked for
 pub nothing_sent : (sent : List ℕ) (b : Bool) → sent ++ cond b [] [] ≡ sent
@@ -273,6 +276,12 @@ LoopStep-close x y d a b leaving one wanted call sent choked asked used there un
       reaches = rw one.ran (ReachesEvents-none x.core.quits y.core.quits x.ran);
       rises = (let e = ap (λ (c : CoreView). c.starved) one.core in omega arith);
       verdicts = verdicts-same x.core.verdicts y.core.verdicts (ap (λ (c : CoreView). c.verdicts) one.core);
+      goes = Goes-kept x.core y.core (record {
+        state = λ told. ap (λ c. state_of c told) one.core ∙ forgot-state x.core d leaving s.among.once s.among.seats s.among.alone told;
+        pending = ap (λ (c : CoreView). c.pending) one.core;
+        starved = ap (λ (c : CoreView). c.starved) one.core;
+        quits = quits;
+      });
       advances = λ same below rows were agrees. advances t s rows were;
       silent = λ over. refl;
       ends = tt;

@@ -44,6 +44,7 @@ use Rattle.wc_turns.proofs.CauseLemmas.{reasons-same, reasons-more, Onward}
 use Rattle.wc_turns.proofs.ForgetLemmas.{and-not-true, and-not-false}
 use Rattle.wc_turns.proofs.TurnLemmas.{Call, LoopStep-step, LoopStep-still}
 use Rattle.wc_core.proofs.OracleLemmas.{verdicts-same}
+use Rattle.wc_turns.proofs.GoesLemmas.{Goes-one, Goes-same}
 
 pub came-flag : (f : Option LinkState → Bool) → f None ≡ false → (k : ℕ) (states : List LinkState) (state : LinkState) (t : Bool) → eqb (link_number state) k ≡ t → f (Some state) ≡ false → at_key link_number (link_number state) states ≡ None → f (at_key link_number k states) ≡ f (at_key link_number k (states ++ state ∷ []))
 came-flag f off-none k states state true e off none =
@@ -193,6 +194,7 @@ LoopStep-came x y a b link nonce comes admits going calm call next used limit se
       reaches = ReachesEvents-all x.core.quits y.core.quits x.ran y.ran (Arrives link.0 nonce ∷ []) going (λ fits. comes.ran);
       rises = (let e = ap (λ (c : CoreView). c.starved) admits.core in omega arith);
       verdicts = verdicts-same x.core.verdicts y.core.verdicts (ap (λ (c : CoreView). c.verdicts) admits.core);
+      goes = Goes-one (Arrives link.0 nonce) x.core y.core (inl admits.core);
       advances = λ same below rows were agrees. advances t s same below rows were;
       silent = λ over. absurd (false≢true (sym going ∙ over));
       ends = (tt, tt);
@@ -360,6 +362,7 @@ LoopStep-refused x y a b link nonce comes r going calm call next used limit sent
       reaches = ReachesEvents-all x.core.quits y.core.quits x.ran y.ran (Arrives link.0 nonce ∷ []) going (λ fits. comes.ran);
       rises = r.rises;
       verdicts = verdicts-same x.core.verdicts y.core.verdicts (ap (λ (c : CoreView). c.verdicts) core);
+      goes = Goes-one (Arrives link.0 nonce) x.core y.core (inr core);
       advances = λ same below rows were agrees. advances t same below rows were;
       silent = λ over. absurd (false≢true (sym going ∙ over));
       ends = (tt, tt);
@@ -435,3 +438,4 @@ LoopStep-idle x a b call sent choked asked used there undrained blocked listenin
     })
     (λ t s. s) (λ t history s. s) (λ k e. e)
     (λ t s rows were. MomentAdvances-same rows (moment x a) (moment (record x { listening = false }) b) refl refl (sent t) (choked t) (ap (λ xs. xs ++ asks_of x.core.servers.wanted) (asked t)) [] (call.taken t) [] refl were tt)
+    (λ s. Goes-same x.core x.core refl)

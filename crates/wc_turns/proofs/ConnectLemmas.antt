@@ -26,6 +26,8 @@ use Rattle.wc_turns.proofs.CauseLemmas.{Onward-none, reasons-same}
 use Rattle.wc_turns.proofs.PartyLemmas.{or-assoc}
 use Rattle.wc_turns.proofs.TurnLemmas.{AskingCall, LoopStep-ask}
 use Rattle.wc_core.proofs.OracleLemmas.{verdicts-same}
+use Rattle.wc_turns.proofs.GoesLemmas.{Goes-kept}
+use Rattle.wc_turns.proofs.AskLemmas.{wanted-kept}
 
 pub pushed-flag : (f : Option LinkState → Bool) → f None ≡ false → (k : ℕ) (states : List LinkState) (state : LinkState) (t : Bool) → eqb (link_number state) k ≡ t → f (Some state) ≡ false → at_key link_number (link_number state) states ≡ None → f (at_key link_number k states) ≡ f (at_key link_number k (states ++ state ∷ []))
 pushed-flag f off-none k states state true e off none =
@@ -81,6 +83,7 @@ LoopStep-begun x x' y a b wanted others first same takes call used asked sent ch
       reaches = rw ran (ReachesEvents-none x.core.quits y.core.quits x.ran);
       rises = (let e = ap (λ c. c.starved) core in omega arith);
       verdicts = verdicts-same x.core.verdicts y.core.verdicts (ap (λ c. c.verdicts) core);
+      goes = Goes-kept x.core y.core (wanted-kept x.core y.core others core);
       advances = λ same' below told were agrees. MomentAdvances-none told (moment x a) (moment y b) (means told were) (ap (λ c. c.quits) core) (gone s) (λ k. spoils t k) (λ k plain. rw (sent t k, unsent k) refl) (λ k plain e. sent t k) (rw core (OnOneSide-none x.core (record x.core { servers = record x.core.servers { wanted = others } }) refl (λ k e. e) (λ k e. e))) (asks t);
       silent = λ over. refl;
       ends = tt;

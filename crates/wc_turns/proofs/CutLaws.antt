@@ -1,8 +1,8 @@
 -- Bytes spell the same events however they are cut.
-use Rattle.std.proofs.Common.{◌≡◌, ◌≢◌, ℕ, zero, suc, ◌+◌, ◌<◌, Bool, true, false, cond, eqb, ◌&&◌, ◌||◌, List, [], ◌∷◌, ◌++◌, length, slice_index, map, Option, Some, None, refl, sym, ap, ◌∙◌, append_assoc, arith}
+use Rattle.std.proofs.Common.{◌≡◌, ℕ, suc, Bool, true, false, cond, eqb, ◌&&◌, ◌||◌, List, [], ◌∷◌, ◌++◌, map, Option, Some, None, refl, sym, ap, ◌∙◌, append_assoc, arith}
 use Rattle.std.specs.List.{flat_map}
 use Rattle.std.proofs.lemmas.Grind.{flat_map-append}
-use Rattle.std.proofs.lemmas.List.{append-nil, length-append}
+use Rattle.std.proofs.lemmas.List.{append-nil}
 use Rattle.std.proofs.lemmas.List.Folds.{list_any-append}
 use Rattle.std.proofs.lemmas.Bool.{false≢true}
 use Rattle.std.proofs.lemmas.Bool.Decides.{nat_tests}
@@ -14,7 +14,7 @@ use Rattle.wc_framing.proofs.OpeningLemmas.{and-left, and-right}
 use Rattle.wc_turns.specs.Events.{bytes_on, comes_on, has_come, socket_on, text_in, tail_as, text_of_read, text_events, came_events, clock_from, clock, refused_from, refused_since, loss_of, wake_events, read_events, end_events, happening_events, events_of, events_from, whole}
 use Rattle.wc_turns.specs.Heard.{Heard, Happened, Unframed, NotPut, happened, happenings}
 use Rattle.wc_turns.specs.Lines.{rest, HasNoLf}
-use Rattle.wc_turns.proofs.HeardLemmas.{happenings-push, plain-before, plain-text, tail_as-push}
+use Rattle.wc_turns.proofs.HeardLemmas.{happenings-push, plain-before, tail_as-push}
 use Rattle.wc_turns.proofs.LineLemmas.{rest-append, read_events-append, read_events-none}
 use Rattle.wc_turns.proofs.ReadServes.{no-lf-front, no-lf-mark}
 use Rattle.wc_turns.proofs.RunLemmas.{events_from-append}

@@ -1,5 +1,5 @@
 -- What the frames of a WebSocket link come to, message by message and read by read.
-use Rattle.std.proofs.Common.{◌≡◌, ◌≢◌, ◌⊎◌, inl, inr, ℕ, ◌+◌, ◌-◌, ◌^◌, ◌<◌, ◌≤◌, Bool, true, false, eqb, min, List, [], ◌∷◌, ◌++◌, length, Option, Some, None, Err, IfSome, IsSome, refl, sym, ap, ◌∙◌, subst, append_assoc, arith}
+use Rattle.std.proofs.Common.{◌≡◌, ◌≢◌, ◌⊎◌, inl, inr, ℕ, ◌+◌, ◌-◌, ◌^◌, ◌<◌, Bool, true, false, eqb, min, List, [], ◌∷◌, ◌++◌, Option, Some, None, Err, IfSome, IsSome, refl, sym, ap, ◌∙◌, subst, append_assoc, arith}
 use Rattle.std.proofs.lemmas.Bool.{false≢true}
 use Rattle.std.proofs.lemmas.Bool.Decides.{nat_tests}
 use Rattle.std.proofs.lemmas.List.{append-nil}
@@ -11,14 +11,13 @@ use Rattle.wc_board.specs.Served.{StaysOrStarves}
 use Rattle.wc_core.specs.Events.{Event, Ends, Breaks}
 use Rattle.wc_core.specs.CoreView.{CoreView}
 use Rattle.wc_core.specs.Step.{step, client_link, link_loss_step}
-use Rattle.wc_core.specs.Served.{links_of, Does, plain_beside}
-use Rattle.wc_core.specs.ServersKept.{ServersKeep}
+use Rattle.wc_core.specs.Served.{Does, plain_beside}
 use Rattle.wc_core.proofs.ComeLemmas.{ServersKeep-trans}
 use Rattle.wc_core.proofs.DidLemmas.{KeepsSaved-trans}
 use Rattle.wc_ws.specs.declared.names.WsRefused.{WsRefused}
 use Rattle.wc_ws.specs.declared.names.WsRefused.TheVariants as refused
 use Rattle.wc_ws.specs.Link.{Link}
-use Rattle.wc_framing.specs.Unframed.{Fed, Unframes, Comes}
+use Rattle.wc_framing.specs.Unframed.{Fed, Comes}
 use Rattle.wc_turns.specs.declared.sockets.WsThen.{WsThen}
 use Rattle.wc_turns.specs.declared.sockets.WsThen.TheVariants.{GoOn, Closed as ClosedFor}
 use Rattle.wc_turns.specs.declared.tail.Tail.{Tail}
@@ -34,6 +33,8 @@ use Rattle.wc_turns.proofs.LineLemmas.{rest-append, read_events-append}
 use Rattle.wc_turns.proofs.LossLemmas.{MayRun-starved}
 use Rattle.wc_turns.proofs.RunLemmas.{ReachesEvents-all, ReachesEvents-none, ReachesEvents-trans}
 use Rattle.wc_turns.proofs.ServedLemmas.{MayRun-none, MayRun-one, MayRun-trans, LeavesAtLine-refl, LeavesAtLine-trans}
+use Rattle.wc_turns.specs.Goes.{TakesEvent, LosesWhole}
+use Rattle.wc_turns.proofs.GoesLemmas.{Goes-lost}
 
 -- ---- who leaves at a read
 
@@ -133,11 +134,11 @@ LeavesAtRead-lost socket link why a b is h = record {
 pub MayTake-none : (a : CoreView) (ran : ℕ) → MayTake a a ran ran []
 MayTake-none a ran = record { events = []; reaches = ReachesEvents-none a.quits a.quits ran; takes = MayRun-none a }
 
-pub MayTake-one : (a b : CoreView) (ran ran' : ℕ) (event : Event) → a.quits ≡ false → ran' ≡ min (ran + 1) (2 ^ 64 - 1) → Does a b (λ state. step state event) → MayTake a b ran ran' (event ∷ [])
-MayTake-one a b ran ran' event going count does = record {
+pub MayTake-one : (a b : CoreView) (ran ran' : ℕ) (event : Event) → a.quits ≡ false → ran' ≡ min (ran + 1) (2 ^ 64 - 1) → Does a b (λ state. step state event) → TakesEvent event a b → MayTake a b ran ran' (event ∷ [])
+MayTake-one a b ran ran' event going count does takes = record {
   events = event ∷ [];
   reaches = ReachesEvents-all a.quits b.quits ran ran' (event ∷ []) going (λ fits. omega arith);
-  takes = MayRun-one a b event does;
+  takes = MayRun-one a b event does takes;
 }
 
 pub MayTake-then : (a b c : CoreView) (r s t : ℕ) (all more : List Event) → a.quits ≡ false → b.quits ≡ false → MayTake a b r s all → MayTake b c s t more → MayTake a c r t (all ++ more)
@@ -155,22 +156,22 @@ broken-memory q = cc
 
 -- the event at which a WebSocket link is closed
 pub MayTake-end : (why : Cause) (link : ℕ) (a b : CoreView) (ran ran' : ℕ) → IsSocketCause why → a.quits ≡ false → (why ≡ NoMemory → ran' ≡ ran) → (why ≢ NoMemory → ran' ≡ min (ran + 1) (2 ^ 64 - 1))
-    → Does a b (λ state. link_loss_step state link why (at_key client_link link state.clients)) → (why ≡ NoMemory → a.starved < 2 ^ 64 - 1 → a.starved < b.starved) → MayTake a b ran ran' (end_events link (end_for why))
-MayTake-end Ended link a b ran ran' is going none one does counted = MayTake-one a b ran ran' (Ends link) going (one ended-memory) does
-MayTake-end BadSocket link a b ran ran' is going none one does counted = MayTake-one a b ran ran' (Breaks link) going (one broken-memory) does
-MayTake-end NoMemory link a b ran ran' is going none one does counted =
+    → Does a b (λ state. link_loss_step state link why (at_key client_link link state.clients)) → (why ≡ NoMemory → a.starved < 2 ^ 64 - 1 → a.starved < b.starved) → LosesWhole link why a b → MayTake a b ran ran' (end_events link (end_for why))
+MayTake-end Ended link a b ran ran' is going none one does counted whole = MayTake-one a b ran ran' (Ends link) going (one ended-memory) does whole
+MayTake-end BadSocket link a b ran ran' is going none one does counted whole = MayTake-one a b ran ran' (Breaks link) going (one broken-memory) does whole
+MayTake-end NoMemory link a b ran ran' is going none one does counted whole =
     let keeps = (does (plain_beside a)).keeps in
     record {
       events = [];
       reaches = rw (none refl) (ReachesEvents-none a.quits b.quits ran);
-      takes = MayRun-starved a b [] keeps (starved-counted a.starved a.starved b.starved (omega arith) keeps.rises (counted refl));
+      takes = MayRun-starved a b [] keeps (starved-counted a.starved a.starved b.starved (omega arith) keeps.rises (counted refl)) (Goes-lost link NoMemory a b (inr refl) whole);
     }
-MayTake-end Failed link a b ran ran' is going none one does counted = absurd is
-MayTake-end LoginFailed link a b ran ran' is going none one does counted = absurd is
-MayTake-end Surplus link a b ran ran' is going none one does counted = absurd is
-MayTake-end Quit link a b ran ran' is going none one does counted = absurd is
-MayTake-end Disconnected link a b ran ran' is going none one does counted = absurd is
-MayTake-end NickTaken link a b ran ran' is going none one does counted = absurd is
+MayTake-end Failed link a b ran ran' is going none one does counted whole = absurd is
+MayTake-end LoginFailed link a b ran ran' is going none one does counted whole = absurd is
+MayTake-end Surplus link a b ran ran' is going none one does counted whole = absurd is
+MayTake-end Quit link a b ran ran' is going none one does counted whole = absurd is
+MayTake-end Disconnected link a b ran ran' is going none one does counted whole = absurd is
+MayTake-end NickTaken link a b ran ran' is going none one does counted whole = absurd is
 
 -- where no event was reached after it, none was before
 pub idle-end : (why : Cause) (ran ran' : ℕ) → IsSocketCause why → (why ≡ NoMemory → ran' ≡ ran) → (why ≢ NoMemory → ran' ≡ min (ran + 1) (2 ^ 64 - 1)) → ran' ≡ 0 → ran ≡ 0

@@ -1,6 +1,6 @@
 -- What the loop keeps is what was heard makes of it.
-use Rattle.std.proofs.Common.{◌≡◌, ◌≢◌, ◌⊎◌, inl, inr, ℕ, ◌+◌, ◌-◌, ◌^◌, ◌<◌, ◌≤◌, Bool, true, false, cond, eqb, ◌&&◌, ◌||◌, min, List, [], ◌∷◌, ◌++◌, length, Option, Some, None, IfSome, is_some, is_none, refl, sym, ap, ◌∙◌, subst, arith, get_or, set, append_assoc}
-use Rattle.std.specs.List.{flat_map, list_any}
+use Rattle.std.proofs.Common.{◌≡◌, ◌≢◌, ◌⊎◌, inl, inr, ℕ, ◌+◌, ◌-◌, ◌^◌, ◌<◌, ◌≤◌, Bool, true, false, cond, eqb, ◌&&◌, ◌||◌, min, List, [], ◌∷◌, ◌++◌, length, Option, Some, None, IfSome, is_some, is_none, refl, sym, ap, ◌∙◌, subst, arith}
+use Rattle.std.specs.List.{flat_map}
 use Rattle.std.proofs.lemmas.List.{append-nil, length-append}
 use Rattle.std.proofs.lemmas.List.Folds.{list_any-append}
 use Rattle.std.proofs.lemmas.Grind.{flat_map-append}
@@ -8,27 +8,27 @@ use Rattle.std.proofs.lemmas.Bool.{false≢true}
 use Rattle.std.proofs.lemmas.Bool.Decides.{nat_tests}
 use Rattle.wc_text.specs.declared.names.LinkId.{LinkId}
 use Rattle.wc_outside.specs.declared.happening.Happening.{Happening}
-use Rattle.wc_outside.specs.declared.happening.Happening.TheVariants.{Accepted, Read}
-use Rattle.wc_outside.specs.Keyed.{at_key, put_at, without, IsKeyPlace}
+use Rattle.wc_outside.specs.declared.happening.Happening.TheVariants.{Accepted}
+use Rattle.wc_outside.specs.Keyed.{at_key, without}
 use Rattle.wc_framing.specs.declared.framing.Framing.{Framing}
 use Rattle.wc_framing.specs.declared.framing.Framing.TheVariants as framing
-use Rattle.wc_framing.specs.Framing.{silent, is_socket, FramedAs}
+use Rattle.wc_framing.specs.Framing.{silent, is_socket}
 use Rattle.wc_framing.specs.Opening.{begins}
 use Rattle.wc_framing.proofs.FramingLemmas.{FramedAs-silent, plain-silent}
 use Rattle.wc_framing.proofs.OpeningLemmas.{undecided-no}
 use Rattle.wc_turns.specs.declared.links.LinkState.{LinkState}
-use Rattle.wc_turns.specs.Events.{bytes_on, comes_on, has_come, socket_on, text_in, tail_as, tail_on, text_of_read, events_of, whole}
+use Rattle.wc_turns.specs.Events.{bytes_on, comes_on, has_come, socket_on, tail_as, tail_on, events_of, whole}
 use Rattle.wc_turns.specs.Framed.{first_framing}
-use Rattle.wc_turns.specs.Heard.{Heard, Happened, Unframed, NotPut, happened, happenings}
+use Rattle.wc_turns.specs.Heard.{Heard, Happened, happened, happenings}
 use Rattle.wc_turns.specs.Lines.{rest}
 use Rattle.wc_turns.specs.Links.{Kind, link_number, kind_of, is_socket_at}
 use Rattle.wc_turns.specs.Steps.{SameTails, SameKinds}
 use Rattle.wc_turns.specs.Tails.{IsTail}
-use Rattle.wc_turns.specs.Turns.{AgreesWithHeard, FramedUnless, FramedFor, IsFramed, frames_text}
-use Rattle.wc_turns.proofs.KeyedLemmas.{at_key-key, at_key-put_other, at_key-put_same, at_key-filter_other, at_key-filter_same}
+use Rattle.wc_turns.specs.Turns.{AgreesWithHeard, FramedFor, IsFramed, frames_text}
+use Rattle.wc_turns.proofs.KeyedLemmas.{at_key-filter_other, at_key-filter_same}
 use Rattle.wc_turns.proofs.AgreesLemmas.{IfSome-None}
 use Rattle.wc_turns.proofs.RunLemmas.{events_from-push}
-use Rattle.wc_turns.proofs.HeardLemmas.{IsQuiet, happenings-push, socket-same, socket-fresh, tail_as-is, tail_as-push, tail-quiet, frames-push, frames-quiet, quiet-arrival}
+use Rattle.wc_turns.proofs.HeardLemmas.{IsQuiet, happenings-push, socket-fresh, tail_as-is, tail-quiet, frames-push, frames-quiet, quiet-arrival}
 
 -- how many events are reached after one more thing was heard
 pub heard-more : (ran ran' : ℕ) (history : List Heard) (h : Heard) → ran ≡ min (length (whole history)) (2 ^ 64 - 1) → ran' ≡ min (ran + length (events_of history h)) (2 ^ 64 - 1) → ran' ≡ min (length (whole (history ++ h ∷ []))) (2 ^ 64 - 1)

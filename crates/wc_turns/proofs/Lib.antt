@@ -14,6 +14,7 @@ pub mod CutLaws
 pub mod FeedLemmas
 pub mod ForgetLemmas
 pub mod FramesLemmas
+pub mod GoesLemmas
 pub mod GoneLemmas
 pub mod HandsLemmas
 pub mod HeardAgrees

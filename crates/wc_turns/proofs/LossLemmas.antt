@@ -33,13 +33,16 @@ use Rattle.wc_turns.proofs.ServedLemmas.{MayRun-none, MayRun-one, MayRun-trans}
 use Rattle.wc_turns.proofs.SeatLemmas.{loses-keeps}
 use Rattle.wc_core.specs.State.{beside}
 use Rattle.wc_core.proofs.OracleLemmas.{Agrees-before}
+use Rattle.wc_turns.specs.Goes.{Goes, LosesWhole, AreEnds}
+use Rattle.wc_turns.proofs.GoesLemmas.{Goes-same, Goes-both, Goes-lost, Goes-ends}
 
 -- ---- one loss
 
 -- where want of memory was counted, the core may have taken any events
-pub MayRun-starved : (a b : CoreView) (events : List Event) → KeepsClients a b → HasStarved a.starved b.starved → MayRun a b events
-MayRun-starved a b events keeps starved = record {
+pub MayRun-starved : (a b : CoreView) (events : List Event) → KeepsClients a b → HasStarved a.starved b.starved → Goes events a b → MayRun a b events
+MayRun-starved a b events keeps starved goes = record {
   keeps = keeps;
+  goes = goes;
   does = λ same below distinct told were agrees. no-starving a.starved b.starved starved same below;
   stops = λ same below distinct told were agrees. no-starving a.starved b.starved starved same below;
 }
@@ -89,8 +92,9 @@ own-left x y link why does distinct none = by (at_key client_link link (clients_
 
 -- what the loss of a link is to the core
 pub LosesLink-of : (x y : CoreView) (link : ℕ) (why : Cause) → Does x y (λ state. link_loss_step state link why (at_key client_link link state.clients)) → ChangesServers x y → is_open_at (at_key connection_link link y.connections) ≡ false
-    → LosesServer (is_open_at (at_key connection_link link x.connections)) link why x.servers y.servers → LosesLink link why x y
-LosesLink-of x y link why does stays gone server = record {
+    → LosesServer (is_open_at (at_key connection_link link x.connections)) link why x.servers y.servers → LosesWhole link why x y → LosesLink link why x y
+LosesLink-of x y link why does stays gone server whole = record {
+  whole = whole;
   keeps = (does (plain_beside x)).keeps;
   quits = ap (λ (c : CoreView). c.quits) stays;
   gone = gone;
@@ -119,7 +123,7 @@ starved-stays x y link does distinct k = by (at_key client_link link (clients_of
 -- ---- losses one after another
 
 pub LosesEach-none : (x : CoreView) → LosesEach [] x x
-LosesEach-none x = record { runs = MayRun-none x; quits = refl; wanted = refl; causes = λ distinct k out. inl refl; closes = λ aside same below distinct told were agrees k. refl }
+LosesEach-none x = record { runs = MayRun-none x; goes = Goes-same x x refl; quits = refl; wanted = refl; causes = λ distinct k out. inl refl; closes = λ aside same below distinct told were agrees k. refl }
 
 refused-more : (k : ℕ) (links : List LinkId) (link : LinkId) → is_refused k (links ++ link ∷ []) ≡ (is_refused k links || (eqb link.0 k || false))
 refused-more k links link = list_any-append (λ (one : LinkId). eqb one.0 k) links (link ∷ [])
@@ -133,9 +137,10 @@ not-second true b e = absurd (false≢true (sym e))
 not-second false true e = e
 not-second false false e = refl
 
-pub LosesEach-more : (x y z : CoreView) (links : List LinkId) (link : LinkId) → y.quits ≡ false → LosesEach links x y → Does y z (λ state. link_loss_step state link.0 Failed (at_key client_link link.0 state.clients)) → z.quits ≡ y.quits → LosesServer (is_open_at (at_key connection_link link.0 y.connections)) link.0 Failed y.servers z.servers → LosesEach (links ++ link ∷ []) x z
-LosesEach-more x y z links link going h does quits loses = record {
-  runs = subst (MayRun x z) (sym (map-more links)) (MayRun-trans x y z (map loss_of links) (Fails link.0 ∷ []) going h.runs (MayRun-one y z (Fails link.0) does));
+pub LosesEach-more : (x y z : CoreView) (links : List LinkId) (link : LinkId) → y.quits ≡ false → LosesEach links x y → Does y z (λ state. link_loss_step state link.0 Failed (at_key client_link link.0 state.clients)) → z.quits ≡ y.quits → LosesServer (is_open_at (at_key connection_link link.0 y.connections)) link.0 Failed y.servers z.servers → LosesWhole link.0 Failed y z → LosesEach (links ++ link ∷ []) x z
+LosesEach-more x y z links link going h does quits loses whole = record {
+  goes = Goes-both [] [] x y z h.goes (Goes-lost link.0 Failed y z (inl refl) whole);
+  runs = subst (MayRun x z) (sym (map-more links)) (MayRun-trans x y z (map loss_of links) (Fails link.0 ∷ []) going h.runs (MayRun-one y z (Fails link.0) does whole));
   quits = quits ∙ h.quits;
   wanted = (loses-keeps (is_open_at (at_key connection_link link.0 y.connections)) link.0 Failed y.servers z.servers loses).wanted ∙ h.wanted;
   causes = λ distinct k out.
@@ -182,13 +187,13 @@ lost-over x y refused unlisted ran same over misses all = over-by unlisted misse
       closes = λ aside still below distinct told were agrees k. refl;
     }
     over-by (suc n) m = record {
-      takes = record { events = []; reaches = ReachesEvents-over x.quits y.quits ran all over; takes = MayRun-starved x y [] m.keeps (m.starves (omega arith)) };
+      takes = record { events = []; reaches = ReachesEvents-over x.quits y.quits ran all over; takes = MayRun-starved x y [] m.keeps (m.starves (omega arith)) m.goes };
       closes = λ aside still below distinct told were agrees k. refl;
     }
 
 -- they are lost
-pub lost-all : (x y z : CoreView) (refused : List LinkId) (unlisted ran ran' : ℕ) → x.quits ≡ false → MissesUnlisted unlisted x y → LosesEach refused y z → ran' ≡ min (min (ran + length refused) (2 ^ 64 - 1) + unlisted) (2 ^ 64 - 1) → (all : List Event) → (unlisted ≡ 0 → all ≡ map loss_of refused) → length all ≡ length refused + unlisted → TakesAside refused x z ran ran' all
-lost-all x y z refused unlisted ran ran' going misses loses count all listed size = all-by unlisted misses count listed size
+pub lost-all : (x y z : CoreView) (refused : List LinkId) (unlisted ran ran' : ℕ) → x.quits ≡ false → MissesUnlisted unlisted x y → LosesEach refused y z → ran' ≡ min (min (ran + length refused) (2 ^ 64 - 1) + unlisted) (2 ^ 64 - 1) → (all : List Event) → (unlisted ≡ 0 → all ≡ map loss_of refused) → length all ≡ length refused + unlisted → AreEnds all → TakesAside refused x z ran ran' all
+lost-all x y z refused unlisted ran ran' going misses loses count all listed size ends = all-by unlisted misses count listed size
   where
     all-by : (n : ℕ) → MissesUnlisted n x y → ran' ≡ min (min (ran + length refused) (2 ^ 64 - 1) + n) (2 ^ 64 - 1) → (n ≡ 0 → all ≡ map loss_of refused) → length all ≡ length refused + n → TakesAside refused x z ran ran' all
     all-by zero m c l s =
@@ -201,7 +206,7 @@ lost-all x y z refused unlisted ran ran' going misses loses count all listed siz
     all-by (suc n) m c l s =
         let starved : HasStarved x.starved z.starved = starved-later x.starved y.starved z.starved loses.runs.keeps.rises (m.starves (omega arith)) in
         record {
-          takes = record { events = all; reaches = ReachesEvents-all x.quits z.quits ran ran' all going (λ fits. omega arith); takes = MayRun-starved x z all (KeepsClients-trans x y z m.keeps loses.runs.keeps) starved };
+          takes = record { events = all; reaches = ReachesEvents-all x.quits z.quits ran ran' all going (λ fits. omega arith); takes = MayRun-starved x z all (KeepsClients-trans x y z m.keeps loses.runs.keeps) starved (Goes-ends all x z ends (Goes-both [] [] x y z m.goes loses.goes)) };
           closes = λ aside still below distinct told were agrees k. no-starving x.starved z.starved starved still below;
         }
 

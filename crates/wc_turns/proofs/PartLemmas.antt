@@ -10,7 +10,6 @@ use Rattle.wc_outside.specs.Seen.{Seen}
 use Rattle.wc_outside.specs.Faults.{NeverFall}
 use Rattle.wc_outside.specs.declared.happening.Happening.TheVariants.{Failed}
 use Rattle.wc_outside.specs.Keyed.{at_key, without}
-use Rattle.wc_board.specs.declared.connection.Connection.{Connection}
 use Rattle.wc_board.specs.declared.connection.Departure.{Departure}
 use Rattle.wc_board.specs.Connections.{connection_link, leaving_in, leaving_on}
 use Rattle.wc_servers.specs.Seats.{AreApart, seat_link, leaving_in as server_leaving_in, leaving_on as server_leaving_on}

@@ -1,5 +1,5 @@
 -- What a read of a link comes to, plain or a WebSocket.
-use Rattle.std.proofs.Common.{◌≡◌, ◌≢◌, ℕ, zero, suc, ◌+◌, ◌-◌, ◌^◌, ◌<◌, ◌≤◌, Bool, true, false, cond, eqb, ◌&&◌, List, [], ◌∷◌, ◌++◌, length, slice_index, Option, Some, None, IfSome, is_none, refl, sym, ap, ◌∙◌, subst, append_assoc, arith}
+use Rattle.std.proofs.Common.{◌≡◌, ℕ, zero, suc, ◌≤◌, Bool, true, false, eqb, ◌&&◌, List, [], ◌∷◌, ◌++◌, length, Option, Some, None, is_none, refl, sym, ap, ◌∙◌, subst, arith}
 use Rattle.std.proofs.lemmas.Bool.{false≢true}
 use Rattle.std.proofs.lemmas.Bool.Decides.{nat_tests}
 use Rattle.std.proofs.lemmas.List.{append-nil}
@@ -19,13 +19,13 @@ use Rattle.wc_turns.specs.declared.links.LinkState.{LinkState}
 use Rattle.wc_turns.specs.declared.sockets.WsThen.TheVariants.{GoOn, Closed as ClosedFor}
 use Rattle.wc_turns.specs.declared.tail.Tail.{Tail}
 use Rattle.wc_turns.specs.Events.{read_events, end_events, text_of_read}
-use Rattle.wc_turns.specs.Heard.{SocketEnd, GoesOn}
-use Rattle.wc_turns.specs.Lines.{rest, HasNoLf, line_limit}
+use Rattle.wc_turns.specs.Heard.{GoesOn}
+use Rattle.wc_turns.specs.Lines.{rest, HasNoLf}
 use Rattle.wc_turns.specs.Served.{MayTake, LeavesAtLine, LeavesAtRead}
-use Rattle.wc_turns.specs.Sockets.{end_for, FedThen, ServesSocket, ServesPiece, ClosesSocket, FeedsHeld, UnframedAs, ServesFrames, ServesOpened, ReadServed, ServesBytes}
+use Rattle.wc_turns.specs.Sockets.{end_for, FedThen, ServesPiece, ClosesSocket, FeedsHeld, UnframedAs, ServesFrames, ServesOpened, ReadServed, ServesBytes}
 use Rattle.wc_turns.specs.Steps.{LosesLink}
 use Rattle.wc_turns.specs.Tails.{IsTail}
-use Rattle.wc_turns.specs.Turns.{FramedFor, IsFramed, EndsAs}
+use Rattle.wc_turns.specs.Turns.{FramedFor, EndsAs}
 use Rattle.wc_turns.proofs.FramesLemmas.{LeavesAtRead-line, LeavesAtRead-trans, LeavesAtRead-lost, own-read, MayTake-none, MayTake-then}
 use Rattle.wc_turns.proofs.HeardAgrees.{framed-is}
 use Rattle.wc_turns.proofs.LineLemmas.{rest-append, rest-line}

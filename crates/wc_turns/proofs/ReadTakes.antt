@@ -1,7 +1,6 @@
 -- A read of a link is taken.
-use Rattle.std.proofs.Common.{◌≡◌, ◌≢◌, ℕ, ◌+◌, ◌-◌, ◌^◌, ◌<◌, Bool, true, false, cond, eqb, ◌&&◌, ◌||◌, min, List, [], ◌∷◌, ◌++◌, length, map, Option, Some, None, IfSome, is_none, refl, sym, ap, ◌∙◌, subst, arith, get_or, set}
+use Rattle.std.proofs.Common.{◌≡◌, ◌≢◌, ℕ, ◌<◌, Bool, true, false, cond, eqb, ◌&&◌, List, [], ◌∷◌, ◌++◌, Option, Some, None, IfSome, is_none, refl, sym, ap, ◌∙◌, subst, arith, get_or, set}
 use Rattle.std.specs.List.{flat_map}
-use Rattle.std.proofs.lemmas.Bool.{false≢true}
 use Rattle.std.proofs.lemmas.Bool.Decides.{nat_tests}
 use Rattle.std.proofs.lemmas.List.{append-nil}
 use Rattle.std.proofs.lemmas.List.Folds.{list_any-append}
@@ -21,7 +20,7 @@ use Rattle.wc_core.specs.CoreView.{CoreView}
 use Rattle.wc_turns.specs.Served.{MayTake, LeavesAtRead}
 use Rattle.wc_turns.specs.Sockets.{ReadServed, ServesBytes}
 use Rattle.wc_turns.specs.Tails.{IsTail}
-use Rattle.wc_turns.specs.Turns.{AgreesWithHeard, IsFramed, frames_text, EndsAs, EndsFor, TakesHappening, TakesRead}
+use Rattle.wc_turns.specs.Turns.{AgreesWithHeard, IsFramed, frames_text, EndsAs, EndsFor, TakesRead}
 use Rattle.wc_turns.proofs.AgreesLemmas.{For-read, text-push, bytes_on-read}
 use Rattle.wc_turns.proofs.HeardAgrees.{heard-more, bytes-quiet, come-quiet, socket-heard, framed-at}
 use Rattle.wc_turns.proofs.HeardLemmas.{IsQuiet, happenings-push, socket-stays, tail_as-is, tail-quiet, frames-push, frames-quiet, other-test, quiet-read}

@@ -2,7 +2,6 @@
 use Rattle.std.proofs.Common.{◌≡◌, ◌≢◌, ◌≤◌, ℕ, inl, inr, false, List, Option, Some, None, IsSome, refl, sym, ap, ◌∙◌, subst, arith}
 use Rattle.std.proofs.lemmas.Bool.{false≢true}
 use Rattle.wc_outside.specs.Seen.{Seen}
-use Rattle.wc_outside.specs.declared.happening.Happening.{Happening}
 use Rattle.wc_core.specs.CoreView.{CoreView}
 use Rattle.wc_core.specs.Served.{KeepsSaved, unwritten_of}
 use Rattle.wc_turns.specs.Heard.{Heard}
@@ -15,6 +14,7 @@ use Rattle.wc_turns.specs.Sources.{IsWritten}
 use Rattle.wc_turns.specs.Turns.{AgreesWithSockets, LoopStep, CoreTakes, ClosesExactly, FaultsIn, moment, waits_then, faults_then}
 use Rattle.wc_turns.specs.Waits.{LosesNone}
 use Rattle.wc_turns.proofs.TurnLemmas.{LoopStep-as}
+use Rattle.wc_turns.proofs.GoesLemmas.{Goes-then, Goes-kept}
 
 -- ---- nothing else changes as it is written
 
@@ -56,6 +56,7 @@ takes-written x h a b ran ran' past closed more c = record {
   reaches = c.reaches;
   rises = c.rises;
   verdicts = c.verdicts;
+  goes = Goes-then c.events x.core h.core (written_state h).core c.goes (Goes-kept h.core (written_state h).core (record { state = λ told. refl; pending = refl; starved = refl; quits = refl }));
   advances = λ same below told were agrees.
       let m = c.advances same below told were agrees in
       record { means = record { same = m.means.same; told = m.means.told }; oracle = m.oracle; stops = m.stops; hands = m.hands; sides = record { clients = m.sides.clients; servers = m.sides.servers }; asks = m.asks; closes = m.closes; quits = m.quits };

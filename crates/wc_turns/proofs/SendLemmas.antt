@@ -1,5 +1,5 @@
 -- What is owed is put into frames, and frames or bytes are sent.
-use Rattle.std.proofs.Common.{◌≡◌, ◌≢◌, ◌⊎◌, inl, inr, ℕ, ◌<◌, ◌≤◌, nat_le, Bool, true, false, not, cond, eqb, ◌&&◌, ◌||◌, IsTrue, List, [], ◌∷◌, ◌++◌, map, length, take, drop, Option, Some, None, IfSome, is_some, refl, sym, ap, ◌∙◌, subst, arith}
+use Rattle.std.proofs.Common.{◌≡◌, ◌≢◌, inl, inr, ℕ, ◌<◌, ◌≤◌, nat_le, Bool, true, false, not, cond, eqb, ◌&&◌, ◌||◌, IsTrue, List, [], ◌++◌, map, length, take, drop, Option, Some, None, IfSome, is_some, refl, sym, ap, ◌∙◌, subst, arith}
 use Rattle.std.proofs.lemmas.Bool.{false≢true}
 use Rattle.std.proofs.lemmas.Bool.Decides.{nat_tests}
 use Rattle.std.proofs.lemmas.List.{append-nil, length-drop}
@@ -33,7 +33,7 @@ use Rattle.wc_turns.specs.Sockets.{to_send, sent_core, SendsFirst, PutsFrames, P
 use Rattle.wc_turns.specs.Sources.{NothingBecameReady, TakesNothing, IsPutWhere, IsPut}
 use Rattle.wc_turns.specs.Steps.{SameTails, SameKinds}
 use Rattle.wc_turns.specs.Tails.{IsTail}
-use Rattle.wc_turns.specs.Turns.{OnOneSide, AgreesOnLinks, AgreesWithSockets, moment, point, LoopStep, left_as, left_on}
+use Rattle.wc_turns.specs.Turns.{OnOneSide, AgreesWithSockets, moment, LoopStep, left_as, left_on}
 use Rattle.wc_turns.proofs.AgreesLemmas.{For-states, missing-as}
 use Rattle.wc_turns.proofs.AskedLemmas.{unsent-party}
 use Rattle.wc_turns.proofs.ReadLemmas.{kept-party}
@@ -49,6 +49,7 @@ use Rattle.wc_turns.proofs.SourceLemmas.{SameLeft, socket-frames, NothingBecameR
 use Rattle.wc_turns.proofs.StepLemmas.{SameSets}
 use Rattle.wc_turns.proofs.TakesLemmas.{flag-put}
 use Rattle.wc_turns.proofs.TurnLemmas.{Call, LoopStep-still}
+use Rattle.wc_turns.proofs.GoesLemmas.{Goes-kept}
 
 -- ---- the core keeps all but unsent bytes of one link
 
@@ -172,6 +173,7 @@ LoopStep-kept x core links a b link kept states closed call choked asked same ha
     (λ k plain gone. nothing t s k plain (gone-nobody k x.used x.core gone))
     kept.sides
     (ap (λ xs. xs ++ asks_of core.servers.wanted) (asked t) ∙ ap (λ ws. a.asked ++ asks_of ws) kept.wanted))
+    (λ s. Goes-kept x.core core (record { state = kept.state; pending = kept.pending; starved = kept.starved; quits = kept.quits }))
 
 -- the same of what is sent on one link
 pub SendsOn-kept : (link : ℕ) (x : Headless) (core : CoreView) (links : Links) (a b : Seen) → KeepsAll link x.core core → KeepsStates x.links.opened.items links.opened.items → links.closed ≡ x.links.closed → ((k : ℕ) → k ≢ link → frames_of (at_key link_number k links.opened.items) ≡ frames_of (at_key link_number k x.links.opened.items)) → NothingBecameReady a b → TakesNothing a b → ((k : ℕ) → k ≢ link → b.blocked k ≡ a.blocked k)

@@ -21,6 +21,8 @@ use Rattle.wc_turns.proofs.RunLemmas.{run-append-state, run-append-acts, EndsAtQ
 use Rattle.wc_turns.proofs.ClosingLemmas.{LineCause, line-cause, line-others}
 use Rattle.wc_eval.specs.Verdicts.{Oracle, Agrees}
 use Rattle.wc_core.proofs.OracleLemmas.{Agrees-before}
+use Rattle.wc_turns.specs.Goes.{TakesEvent}
+use Rattle.wc_turns.proofs.GoesLemmas.{Goes-same, Goes-one, Goes-both}
 
 pub Follows-acts : (told : Beside) (a b : CoreView) (state : State) (acts acts' : List Act) (way way' : List State) → acts ≡ acts' → Follows told a b (record { state = state; acts = acts; way = way }) → Follows told a b (record { state = state; acts = acts'; way = way' })
 Follows-acts told a b state acts acts' way way' e did =
@@ -47,11 +49,12 @@ ends-by true end q = refl
 ends-by false end q = q
 
 pub MayRun-none : (a : CoreView) → MayRun a a []
-MayRun-none a = record { keeps = KeepsClients-refl a; does = λ same below distinct told were agrees. Follows-stays told a were; stops = λ same below distinct told were agrees. tt }
+MayRun-none a = record { keeps = KeepsClients-refl a; goes = Goes-same a a refl; does = λ same below distinct told were agrees. Follows-stays told a were; stops = λ same below distinct told were agrees. tt }
 
-pub MayRun-one : (a b : CoreView) (event : Event) → Does a b (λ state. step state event) → MayRun a b (event ∷ [])
-MayRun-one a b event h = record {
+pub MayRun-one : (a b : CoreView) (event : Event) → Does a b (λ state. step state event) → TakesEvent event a b → MayRun a b (event ∷ [])
+MayRun-one a b event h takes = record {
   keeps = (h (plain_beside a)).keeps;
+  goes = Goes-one event a b takes;
   does = λ same below distinct told were agrees. (let s = step (state_of a told) event in Follows-acts told a b s.state s.acts (s.acts ++ []) s.way (s.way ++ []) (sym (append-nil s.acts)) ((h told).does same below distinct were agrees));
   stops = λ same below distinct told were agrees. EndsAtQuit-one (state_of a told) (event ∷ []) refl;
 }
@@ -60,6 +63,7 @@ MayRun-one a b event h = record {
 pub MayRun-then : (a b c : CoreView) (es fs : List Event) → (b.quits ≡ true → fs ≡ []) → MayRun a b es → MayRun b c fs → MayRun a c (es ++ fs)
 MayRun-then a b c es fs over h g = record {
   keeps = KeepsClients-trans a b c h.keeps g.keeps;
+  goes = Goes-both es fs a b c h.goes g.goes;
   does = λ same below distinct told were agrees.
       let before = first same below distinct told were agrees in
       Follows-append told a b c es fs h.keeps.servers before (g.does (later same) (under same below) (following distinct) (beside (run (state_of a told) es).state) before.means.told (onward told.oracle (run (state_of a told) es).state.oracle before.oracle agrees));

@@ -1,5 +1,5 @@
 -- What is put into frames and what is sent on a WebSocket link, by the exits of the calls.
-use Rattle.std.proofs.Common.{◌≡◌, ℕ, Bool, true, false, ◌+◌, ◌≤◌, length, List, [], drop, Bor, is_some, Option, Some, None, refl, sym, ap, ◌∙◌, subst, get_or, set}
+use Rattle.std.proofs.Common.{◌≡◌, ℕ, true, false, ◌+◌, ◌≤◌, length, List, drop, Bor, is_some, Option, Some, None, refl, sym, ap, ◌∙◌, subst, get_or, set}
 use Rattle.std.proofs.lemmas.Bool.{false≢true}
 use Rattle.std.proofs.Math.Bridge.{le_prop}
 use Rattle.std.proofs.Math.Nat.{ℕ_set}

@@ -39,6 +39,8 @@ use Rattle.wc_turns.proofs.ChangedLemmas.{there-as}
 use Rattle.wc_turns.proofs.SeatLemmas.{open-none, shut-leaving}
 use Rattle.wc_turns.proofs.TurnLemmas.{Call, LoopStep-step, LoopStep-still}
 use Rattle.wc_core.proofs.OracleLemmas.{Stay-refl}
+use Rattle.wc_turns.specs.Goes.{AreEnds}
+use Rattle.wc_turns.proofs.GoesLemmas.{Goes-same, Goes-ends}
 
 -- the sockets stay as they were but for what they gave and sent
 pub record SameSets (a b : Seen) : Type 0 where
@@ -96,11 +98,12 @@ no-arrivals k (h ∷ given) e =
     rw (or-first (comes_on k h) false first) (no-arrivals k given (or-second (gives h) (list_any gives given) e))
 
 missed-by : (history : List Heard) (x : Headless) (n : ℕ) (a b : Seen) (h : Happening) (q : Bool) → x.core.quits ≡ q → n ≡ reached_after_miss x.core.quits x.ran → b.taken ≡ a.taken ++ h ∷ [] → ((k : ℕ) → b.sent k ≡ a.sent k) → ((k : ℕ) → b.choked k ≡ a.choked k) → b.asked ≡ a.asked
-    → length (happening_events history h) ≡ 1 → GivesNothing (h ∷ []) → (x.core.quits ≡ false → (told : Beside) → run (state_of x.core told) (happening_events history h) ≡ no_step (state_of x.core told)) → CoreTakes history (moment x a) (moment (record x { ran = n }) b) x.ran n [] (Happened h ∷ [])
-missed-by history x n a b h true e count taken sent choked asked one gives none =
+    → length (happening_events history h) ≡ 1 → GivesNothing (h ∷ []) → (x.core.quits ≡ false → (told : Beside) → run (state_of x.core told) (happening_events history h) ≡ no_step (state_of x.core told)) → AreEnds (happening_events history h) → CoreTakes history (moment x a) (moment (record x { ran = n }) b) x.ran n [] (Happened h ∷ [])
+missed-by history x n a b h true e count taken sent choked asked one gives none ends =
     let same : n ≡ x.ran = rw e at count in
     record {
       events = [];
+      goes = Goes-same x.core x.core refl;
       reaches = rw same (ReachesEvents-over x.core.quits x.core.quits x.ran (events_from history (Happened h ∷ [])) e);
       rises = omega arith;
       verdicts = Stay-refl x.core.verdicts;
@@ -109,10 +112,11 @@ missed-by history x n a b h true e count taken sent choked asked one gives none 
       ends = (tt, tt);
       last = λ still below told were agrees going over. absurd (false≢true (sym going ∙ over));
     }
-missed-by history x n a b h false e count taken sent choked asked one gives none =
+missed-by history x n a b h false e count taken sent choked asked one gives none ends =
     let more : n ≡ min (x.ran + 1) (2 ^ 64 - 1) = rw e at count in
     record {
       events = happening_events history h;
+      goes = Goes-ends (happening_events history h) x.core x.core ends (Goes-same x.core x.core refl);
       reaches = rw (append-nil (happening_events history h)) (ReachesEvents-all x.core.quits x.core.quits x.ran n (happening_events history h) e (λ fits. omega arith));
       rises = omega arith;
       verdicts = Stay-refl x.core.verdicts;
@@ -130,6 +134,17 @@ ran-before false ran n count e = omega arith
 missed-nobody : (h : Happening) → GivesNothing (h ∷ []) → (k : ℕ) → comes_on k h ≡ false
 missed-nobody h gives k = or-first (comes_on k h) false (no-arrival k h gives)
 
+-- what gives nothing, and is no wake, tells of an end
+missed-ends : (history : List Heard) (h : Happening) → is_wake h ≡ 0 → GivesNothing (h ∷ []) → AreEnds (happening_events history h)
+missed-ends history (Woke moment) wake gives = absurd (omega (arith, wake))
+missed-ends history (Accepted link nonce) wake gives = absurd (false≢true (sym gives))
+missed-ends history (Read link bytes) wake gives = absurd (false≢true (sym gives))
+missed-ends history (Ended link) wake gives = (refl, tt)
+missed-ends history (Failed link) wake gives = (refl, tt)
+missed-ends history (Connected link) wake gives = absurd (false≢true (sym gives))
+missed-ends history (Refused link) wake gives = tt
+missed-ends history ListenFailed wake gives = (refl, tt)
+
 -- an event that changes nothing
 pub LoopStep-missed : (x : Headless) (n : ℕ) (a b : Seen) (h : Happening) → is_wake h ≡ 0 → GivesNothing (h ∷ []) → Call a b (h ∷ []) → (IsTrue b.tells → (k : ℕ) → b.sent k ≡ a.sent k) → (IsTrue b.tells → (k : ℕ) → b.choked k ≡ a.choked k) → (IsTrue b.tells → b.asked ≡ a.asked) → SameSets a b
     → ((k : ℕ) → bytes_on k h ≡ []) → IsTimeless h → KeepsRefused h → IsUnstanding h → ((history : List Heard) → length (happening_events history h) ≡ 1) → n ≡ reached_after_miss x.core.quits x.ran
@@ -143,7 +158,7 @@ LoopStep-missed x n a b h wake gives call sent choked asked same quiet timeless 
     (λ t s on. (let more : n ≡ min (x.ran + 1) (2 ^ 64 - 1) = rw on at count in let o = one s.history in Hears-quiet x.links.opened.items x.used x.used x.ran n a.taken s.history (Happened h) (s.spells (call.told t)) (quiet-happened h quiet (missed-nobody h gives)) (omega arith) (omega arith) (s.hears (call.told t) on)))
     (λ t s k e. socket-stays k a.taken (h ∷ []) (s.sockets (call.told t) k e))
     (λ s stopped. s.idle (ran-before x.core.quits x.ran n count stopped))
-    (λ t s. missed-by s.history x n a b h x.core.quits refl count (call.taken t) (sent t) (choked t) (asked t) (one s.history) gives (λ on. none s on s.history))
+    (λ t s. missed-by s.history x n a b h x.core.quits refl count (call.taken t) (sent t) (choked t) (asked t) (one s.history) gives (λ on. none s on s.history) (missed-ends s.history h wake gives))
 
 left-client : (k : ℕ) (connections : List Connection) (o : Option Connection) → at_key connection_link k connections ≡ o → Distinct (map connection_link connections) → IsSome (leaving_in o) → at_key client_link k (clients_of connections) ≡ None
 left-client k connections None e d h = absurd (false≢true h)
@@ -220,3 +235,4 @@ LoopStep-flags x y a b only call sent choked asked used there listening numbers 
     (λ t history s. rw (only.used, only.ran) (Hears-states x.links.opened.items y.links.opened.items x.used x.ran a.taken history tails (readings-kinds x.links.opened.items y.links.opened.items kinds) s))
     (λ k e. socket-kinds (at_key link_number k x.links.opened.items) (at_key link_number k y.links.opened.items) (kinds k) e)
     (λ t s told were. MomentAdvances-same told (moment x a) (moment y b) only.core only.used (sent t) (choked t) (ap (λ xs. xs ++ asks_of y.core.servers.wanted) (asked t) ∙ ap (λ c. a.asked ++ asks_of c.servers.wanted) only.core) [] (call.taken t) [] refl were tt)
+    (λ s. Goes-same x.core y.core only.core)

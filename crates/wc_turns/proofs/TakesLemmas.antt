@@ -20,20 +20,20 @@ use Rattle.wc_core.specs.CoreView.{CoreView}
 use Rattle.wc_core.specs.State.{State, Act, has_end}
 use Rattle.wc_core.specs.Step.{run, step}
 use Rattle.wc_core.specs.Served.{links_of, state_of, outs_of, close_of, or_else, Distinct, Does, Follows, KeepsSaved, plain_beside}
-use Rattle.wc_core.specs.ServersKept.{AreInOrder, parts_in, ServersKeep}
+use Rattle.wc_core.specs.ServersKept.{AreInOrder, parts_in}
 use Rattle.wc_core.proofs.ConnectionLemmas.{client-missing}
 use Rattle.wc_board.specs.Served.{StaysOrStarves}
 use Rattle.wc_turns.specs.declared.links.LinkState.{LinkState}
 use Rattle.wc_turns.specs.declared.headless.Headless.{Headless}
 use Rattle.wc_turns.specs.Links.{link_number, is_undrained, is_blocked, is_there, is_connecting, is_socket_at, changed_at, standing_state, IsConnecting}
 use Rattle.wc_turns.specs.Events.{bytes_on, comes_on, has_come, socket_on, happening_events, events_of}
-use Rattle.wc_turns.specs.Heard.{Heard, Happened, NotPut, happened, happenings}
+use Rattle.wc_turns.specs.Heard.{Heard, Happened, NotPut, happened}
 use Rattle.wc_turns.specs.Parties.{asks_of, asks_in, closes_asked, seat_closes, IsCalm}
 use Rattle.wc_turns.specs.Run.{closings, close_of_parting}
 use Rattle.wc_turns.specs.Steps.{LosesLink}
-use Rattle.wc_turns.specs.Served.{closed_by, leaving_closes, MayTake, IsOfRead, LeavesForRead, LeavesAtRead}
+use Rattle.wc_turns.specs.Served.{closed_by, leaving_closes, IsOfRead, LeavesForRead, LeavesAtRead}
 use Rattle.wc_turns.specs.Turns.{AgreesOnLinks, AgreesWithSockets, moment, CausedBy, IsOfServer, HasCause, wake_count, listen_faults, closed_so_far, LoopStep, TakesHappening}
-use Rattle.wc_turns.proofs.KeyedLemmas.{at_key-key, at_key-put_same, at_key-put_other, map-put_at, none_of, same-keys}
+use Rattle.wc_turns.proofs.KeyedLemmas.{at_key-key, at_key-put_same, at_key-put_other, none_of, same-keys}
 use Rattle.wc_turns.proofs.RunLemmas.{ReachesEvents-all}
 use Rattle.wc_turns.proofs.PointLemmas.{AreAlone, seats-above, sides-kept, MomentAdvances-takes, asks_of-append}
 use Rattle.wc_turns.proofs.ChangedLemmas.{changed, keeps-standing, at_key-changed, numbers-changed, SameTails-changed}
@@ -48,6 +48,7 @@ use Rattle.wc_turns.proofs.SeatLemmas.{open-none, seats-all, calm-partings}
 use Rattle.wc_turns.proofs.PartyLemmas.{among-come, party-used, clients-above, calm-clients, calm-seats}
 use Rattle.wc_turns.proofs.StepLemmas.{SameSets}
 use Rattle.wc_turns.proofs.TurnLemmas.{Call, LoopStep-step}
+use Rattle.wc_turns.specs.Goes.{TakesEvent, LosesWhole, DoesWhole}
 
 pub flag-put : (f : Option LinkState → Bool) (j k : ℕ) (t : Bool) → eqb k j ≡ t → (old new : LinkState) (states : List LinkState) → at_key link_number j states ≡ Some old → link_number new ≡ j → f (Some new) ≡ f (Some old) → f (at_key link_number k (put_at link_number j new states)) ≡ f (at_key link_number k states)
 flag-put f j k true e old new states found key flag =
@@ -77,8 +78,8 @@ standing-at states link place old p at stands =
 -- the link of a client or of a server is lost
 pub TakesHappening-lost : (x y : Headless) (h : Happening) (event : Event) → x.core.quits ≡ false → ((k : ℕ) → bytes_on k h ≡ []) → ((k : ℕ) → comes_on k h ≡ false) → IsTimeless h → KeepsRefused h → IsUnstanding h → ((history : List Heard) → happening_events history h ≡ event ∷ [])
     → y.turns ≡ x.turns → y.used ≡ x.used → y.listening ≡ x.listening → y.refused ≡ x.refused → y.unlisted ≡ x.unlisted → y.clock ≡ x.clock → y.links ≡ x.links → y.ran ≡ min (x.ran + 1) (2 ^ 64 - 1)
-    → Does x.core y.core (λ state. step state event) → TakesHappening x y (Happened h)
-TakesHappening-lost x y h event going quiet nobody timeless keeps unstanding events turns used listening refused unlisted clock links ran does = record {
+    → Does x.core y.core (λ state. step state event) → TakesEvent event x.core y.core → TakesHappening x y (Happened h)
+TakesHappening-lost x y h event going quiet nobody timeless keeps unstanding events turns used listening refused unlisted clock links ran does whole = record {
   turns = turns;
   closed = ap (λ l. l.closed.items) links;
   used = used;
@@ -95,14 +96,14 @@ TakesHappening-lost x y h event going quiet nobody timeless keeps unstanding eve
   hears = λ taken history spells unknown on s. rw (links, used) (Hears-quiet x.links.opened.items x.used x.used x.ran y.ran taken history (Happened h) spells (quiet-happened h quiet nobody) (omega arith) (let e = ap length (events history) in omega arith) s);
   sockets = λ taken history spells s k e. socket-stays k taken (h ∷ []) (socket-heard x.links.opened.items x.used x.ran taken history s k (rw links at e));
   ends = λ taken history spells s. tt;
-  takes = λ taken history spells s. rw (events history) (record { events = event ∷ []; reaches = ReachesEvents-all x.core.quits y.core.quits x.ran y.ran (event ∷ []) going (λ fits. omega arith); takes = MayRun-one x.core y.core event does });
+  takes = λ taken history spells s. rw (events history) (record { events = event ∷ []; reaches = ReachesEvents-all x.core.quits y.core.quits x.ran y.ran (event ∷ []) going (λ fits. omega arith); takes = MayRun-one x.core y.core event does whole });
 }
 
 -- a message could not be put into a frame of a link
 pub TakesHappening-broken : (x y : Headless) (link : LinkId) → x.core.quits ≡ false
     → y.turns ≡ x.turns → y.used ≡ x.used → y.listening ≡ x.listening → y.refused ≡ x.refused → y.unlisted ≡ x.unlisted → y.clock ≡ x.clock → y.links ≡ x.links → y.ran ≡ min (x.ran + 1) (2 ^ 64 - 1)
-    → Does x.core y.core (λ state. step state (Breaks link.0)) → is_socket_at (at_key link_number link.0 x.links.opened.items) ≡ true → TakesHappening x y (NotPut link)
-TakesHappening-broken x y link going turns used listening refused unlisted clock links ran does is = record {
+    → Does x.core y.core (λ state. step state (Breaks link.0)) → is_socket_at (at_key link_number link.0 x.links.opened.items) ≡ true → LosesWhole link.0 BadSocket x.core y.core → TakesHappening x y (NotPut link)
+TakesHappening-broken x y link going turns used listening refused unlisted clock links ran does is whole = record {
   turns = turns;
   closed = ap (λ l. l.closed.items) links;
   used = used;
@@ -119,13 +120,13 @@ TakesHappening-broken x y link going turns used listening refused unlisted clock
   hears = λ taken history spells unknown on s. rw (links, used) (Hears-quiet x.links.opened.items x.used x.used x.ran y.ran taken history (NotPut link) spells (quiet-notput link) (omega arith) ran s);
   sockets = λ taken history spells s k e. socket-stays k taken [] (socket-heard x.links.opened.items x.used x.ran taken history s k (rw links at e));
   ends = λ taken history spells s. ap (socket_on link.0) spells ∙ socket-heard x.links.opened.items x.used x.ran taken history s link.0 is;
-  takes = λ taken history spells s. record { events = Breaks link.0 ∷ []; reaches = ReachesEvents-all x.core.quits y.core.quits x.ran y.ran (Breaks link.0 ∷ []) going (λ fits. omega arith); takes = MayRun-one x.core y.core (Breaks link.0) does };
+  takes = λ taken history spells s. record { events = Breaks link.0 ∷ []; reaches = ReachesEvents-all x.core.quits y.core.quits x.ran y.ran (Breaks link.0 ∷ []) going (λ fits. omega arith); takes = MayRun-one x.core y.core (Breaks link.0) does whole };
 }
 
 -- a connection stands
 pub TakesHappening-stands : (x y : Headless) (link : LinkId) → x.core.quits ≡ false → IsConnecting link.0 x.links.opened.items → y.turns ≡ x.turns → y.used ≡ x.used → y.listening ≡ x.listening → y.refused ≡ x.refused → y.unlisted ≡ x.unlisted → y.clock ≡ x.clock → y.links.closed ≡ x.links.closed
-    → y.links.opened.items ≡ changed_at link.0 standing_state x.links.opened.items (at_key link_number link.0 x.links.opened.items) → y.ran ≡ min (x.ran + 1) (2 ^ 64 - 1) → Does x.core y.core (λ state. step state (Stands link.0)) → TakesHappening x y (Happened (Connected link))
-TakesHappening-stands x y link going connecting turns used listening refused unlisted clock closed opened ran does = record {
+    → y.links.opened.items ≡ changed_at link.0 standing_state x.links.opened.items (at_key link_number link.0 x.links.opened.items) → y.ran ≡ min (x.ran + 1) (2 ^ 64 - 1) → Does x.core y.core (λ state. step state (Stands link.0)) → DoesWhole None x.core y.core (λ state. step state (Stands link.0)) → TakesHappening x y (Happened (Connected link))
+TakesHappening-stands x y link going connecting turns used listening refused unlisted clock closed opened ran does whole = record {
   turns = turns;
   closed = ap (λ v. v.items) closed;
   used = used;
@@ -143,7 +144,7 @@ TakesHappening-stands x y link going connecting turns used listening refused unl
       (Hears-quiet states x.used x.used x.ran y.ran taken history (Happened (Connected link)) spells (quiet-happened (Connected link) (λ k. refl) (λ k. refl)) (omega arith) ran s));
   sockets = λ taken history spells s k e. socket-stays k taken (Connected link ∷ []) (socket-heard states x.used x.ran taken history s k (sym (flag-stands is_socket_at (λ state. refl) k) ∙ rw opened at e));
   ends = λ taken history spells s. tt;
-  takes = λ taken history spells s. record { events = Stands link.0 ∷ []; reaches = ReachesEvents-all x.core.quits y.core.quits x.ran y.ran (Stands link.0 ∷ []) going (λ fits. omega arith); takes = MayRun-one x.core y.core (Stands link.0) does };
+  takes = λ taken history spells s. record { events = Stands link.0 ∷ []; reaches = ReachesEvents-all x.core.quits y.core.quits x.ran y.ran (Stands link.0 ∷ []) going (λ fits. omega arith); takes = MayRun-one x.core y.core (Stands link.0) does whole };
 } where
   states : List LinkState
   states = x.links.opened.items
@@ -258,6 +259,7 @@ LoopStep-takes x y link a b h n wake faults call sent choked asked same calm goi
       reaches = rw (append-nil (events_of s.history h)) m.reaches;
       rises = m.takes.keeps.rises;
       verdicts = m.takes.keeps.verdicts;
+      goes = m.takes.goes;
       advances = λ fed below rows were agrees.
           let did = m.takes.does fed below s.among.once rows were agrees in
           let acts = (run (state_of x.core rows) m.events).acts in

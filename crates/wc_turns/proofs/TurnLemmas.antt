@@ -19,7 +19,7 @@ use Rattle.wc_core.proofs.DidLemmas.{has_end-append, KeepsSaved-trans}
 use Rattle.wc_turns.specs.declared.links.Closed.{Closed}
 use Rattle.wc_turns.specs.declared.headless.Headless.{Headless}
 use Rattle.wc_turns.specs.Events.{events_from, socket_on}
-use Rattle.wc_turns.specs.Heard.{Heard, Happened, happened, happenings}
+use Rattle.wc_turns.specs.Heard.{Heard, happenings}
 use Rattle.wc_turns.specs.Links.{link_number, is_socket_at}
 use Rattle.wc_outside.specs.Keyed.{at_key}
 use Rattle.wc_turns.specs.Run.{closings, EndsAtQuit}
@@ -28,11 +28,13 @@ use Rattle.wc_turns.specs.Served.{ReachesEvents}
 use Rattle.wc_turns.specs.Turns.{AgreesWithHappenings, AgreesWithHeard, AgreesOnLinks, AgreesWithSockets, Moment, moment, point, MomentAdvances, gives, GivesNothing, EndsEach, QuitsWithin, CoreTakes, HasCause, HasReason, wake_count, listen_faults, faults_of, closed_so_far, LoopStep, ClosesExactly}
 use Rattle.wc_turns.proofs.RunLemmas.{run-append-state, run-append-acts, closings-append, events_from-append, ReachesEvents-trans, ReachesEvents-none, EndsAtQuit-append}
 use Rattle.wc_turns.proofs.HandsLemmas.{Delivers-trans}
-use Rattle.wc_turns.proofs.HeardLemmas.{happenings-append, plain-before, socket-stays}
+use Rattle.wc_turns.proofs.HeardLemmas.{happenings-append, plain-before}
 use Rattle.wc_turns.proofs.PointLemmas.{owed_to-append, asks_in-append, OnOneSide-trans}
 use Rattle.wc_turns.proofs.CauseLemmas.{KeepsSides, Onward, Onward-none, Onward-trans, reasons-trans, reasons-as, reasons-same, turn-reasons}
 use Rattle.wc_eval.specs.Verdicts.{Oracle, Agrees}
 use Rattle.wc_core.proofs.OracleLemmas.{Agrees-before, Stay-trans, verdicts-same}
+use Rattle.wc_turns.specs.Goes.{Goes}
+use Rattle.wc_turns.proofs.GoesLemmas.{Goes-both}
 
 pub NeverFall-refl : (a : Faults) → NeverFall a a
 NeverFall-refl a = record { waits = omega arith; listens = omega arith; connects = omega arith; links = omega arith }
@@ -119,6 +121,7 @@ CoreTakes-trans past now a b c n m o closed closed' more more' given gives' grow
       (subst (λ taken. ReachesEvents b.core.quits c.core.quits m o (events_from taken more') g.events) grows g.reaches));
   rises = (let p = h.rises in let q = g.rises in omega arith);
   verdicts = Stay-trans a.core.verdicts b.core.verdicts c.core.verdicts h.verdicts g.verdicts;
+  goes = Goes-both h.events g.events a.core b.core c.core h.goes g.goes;
   advances = λ same below told were agrees.
       let p = h.rises in
       let q = g.rises in
@@ -329,16 +332,16 @@ pub LoopStep-still : (x y : Headless) (a b : Seen) → Call a b [] → y.turns �
     → (IsTrue b.tells → AgreesWithHappenings x.clock x.links.opened.items x.used x.ran x.refused.items x.unlisted a.taken → AgreesWithHappenings y.clock y.links.opened.items y.used y.ran y.refused.items y.unlisted a.taken)
     → (IsTrue b.tells → (history : List Heard) → AgreesWithHeard x.links.opened.items x.used x.ran a.taken history → AgreesWithHeard y.links.opened.items y.used y.ran a.taken history)
     → ((k : ℕ) → is_socket_at (at_key link_number k y.links.opened.items) ≡ true → is_socket_at (at_key link_number k x.links.opened.items) ≡ true)
-    → (IsTrue b.tells → AgreesWithSockets x a → (told : Beside) → WereTold x.core told → MomentAdvances told (moment x a) (moment y b) [] [])
+    → (IsTrue b.tells → AgreesWithSockets x a → (told : Beside) → WereTold x.core told → MomentAdvances told (moment x a) (moment y b) [] []) → (AgreesWithSockets x a → Goes [] x.core y.core)
     → LoopStep true 0 0 x y a b
-LoopStep-still x y a b call turns starved judged quits ran sides used wanted saves closed among told hears sockets advances =
+LoopStep-still x y a b call turns starved judged quits ran sides used wanted saves closed among told hears sockets advances goes =
     LoopStep-step true 0 0 x y a b [] [] [] refl call (λ below. omega arith) refl refl
     (omega arith) (λ t s same below. closed ∙ sym (append-nil _)) (λ s. reasons-same x y a b closed) (λ s. sides) (λ s. Onward-none x.core y.core [] (omega arith) (λ k. refl)) (λ over. quits ∙ over) (λ t s. saves) among
     (λ t s on. rw (append-nil a.taken) (told t (s.told (call.told t) (sym quits ∙ on))))
     (λ t s on. rw (append-nil a.taken, append-nil s.history) (hears t s.history (s.hears (call.told t) (sym quits ∙ on))))
     (λ t s k e. rw (append-nil a.taken) (s.sockets (call.told t) k (sockets k e)))
     (λ s none. wanted ∙ s.idle (sym ran ∙ none))
-    (λ t s. record { events = []; reaches = rw ran (ReachesEvents-none x.core.quits y.core.quits x.ran); rises = omega arith; verdicts = verdicts-same x.core.verdicts y.core.verdicts judged; advances = λ same below told were agrees. advances t s told were; silent = λ over. refl; ends = tt; last = λ same below told were agrees going over. absurd (false≢true (sym going ∙ sym quits ∙ over)) })
+    (λ t s. record { events = []; reaches = rw ran (ReachesEvents-none x.core.quits y.core.quits x.ran); rises = omega arith; verdicts = verdicts-same x.core.verdicts y.core.verdicts judged; goes = goes s; advances = λ same below told were agrees. advances t s told were; silent = λ over. refl; ends = tt; last = λ same below told were agrees going over. absurd (false≢true (sym going ∙ sym quits ∙ over)) })
 
 pub Rose-following : {A : Type 0} (r : Result A Fault) (p q n : ℕ) → p ≤ q → OnErr r (Rose q n) → OnErr r (Rose p n)
 Rose-following (Ok v) p q n below h = tt

@@ -1,5 +1,5 @@
 -- A message of a WebSocket could not be put into a frame.
-use Rattle.std.proofs.Common.{◌≡◌, ℕ, ◌≤◌, true, false, List, [], ◌∷◌, ◌++◌, Option, Some, None, IsSome, is_some, refl, sym, ap, ◌∙◌, subst, arith}
+use Rattle.std.proofs.Common.{◌≡◌, ℕ, true, false, List, [], ◌++◌, Option, Some, None, IsSome, is_some, refl, sym, ap, ◌∙◌, subst, arith, inr}
 use Rattle.std.proofs.lemmas.List.{append-nil}
 use Rattle.wc_text.specs.declared.names.LinkId.{LinkId}
 use Rattle.wc_text.specs.declared.names.Cause.{Cause}
@@ -39,6 +39,7 @@ use Rattle.wc_turns.proofs.SendLemmas.{LoopStep-put, SendsOn-put}
 use Rattle.wc_turns.proofs.SocketLemmas.{refused-socket}
 use Rattle.wc_turns.proofs.TakesLemmas.{LoopStep-takes, causes-lost}
 use Rattle.wc_turns.proofs.TurnLemmas.{LoopStep-step, LoopStep-trans}
+use Rattle.wc_turns.proofs.GoesLemmas.{Goes-lost}
 
 -- there was no memory for it: its client begins to leave, and no event is reached
 starved-step : (x : Headless) (core : CoreView) (link : LinkId) (a : Seen) → LosesLink link.0 NoMemory x.core core → HasStarved x.core.starved core.starved → IsCalm x.core → x.core.quits ≡ false → LoopStep true 0 0 x (record x { core = core }) a a
@@ -63,6 +64,7 @@ starved-step x core link a loses starved calm going =
       reaches = ReachesEvents-none x.core.quits core.quits x.ran;
       rises = loses.keeps.rises;
       verdicts = loses.keeps.verdicts;
+      goes = Goes-lost link.0 NoMemory x.core core (inr refl) loses.whole;
       advances = λ same below rows were agrees. no-starving x.core.starved core.starved starved same below;
       silent = λ over. refl;
       ends = tt;

@@ -31,6 +31,7 @@ use Rattle.wc_turns.proofs.StepLemmas.{SameSets, among-same}
 use Rattle.wc_turns.proofs.CauseLemmas.{Onward-none}
 use Rattle.wc_turns.proofs.TurnLemmas.{Call, LoopStep-step}
 use Rattle.wc_core.proofs.OracleLemmas.{verdicts-same}
+use Rattle.wc_turns.proofs.GoesLemmas.{Goes-same}
 
 -- ---- nothing is taken
 
@@ -67,6 +68,7 @@ LoopStep-unwoken x y a b core clock used listening refused unlisted turns ran op
       reaches = rw ran (ReachesEvents-none x.core.quits y.core.quits x.ran);
       rises = (let q = ap (λ (c : CoreView). c.starved) core in omega arith);
       verdicts = verdicts-same x.core.verdicts y.core.verdicts (ap (λ (c : CoreView). c.verdicts) core);
+      goes = Goes-same x.core y.core core;
       advances = λ fed below told' were agrees. MomentAdvances-same told' (moment x a) (moment y b) core used (sent t) (choked t) (ap (λ xs. xs ++ asks_of y.core.servers.wanted) (asked t) ∙ ap (λ (c : CoreView). a.asked ++ asks_of c.servers.wanted) core) [] (call.taken t) [] refl were tt;
       silent = λ over. refl;
       ends = tt;

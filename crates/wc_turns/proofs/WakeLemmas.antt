@@ -1,9 +1,9 @@
 -- Waits return.
-use Rattle.std.proofs.Common.{◌≡◌, ◌⊎◌, inl, inr, ℕ, ◌+◌, ◌-◌, ◌^◌, ◌<◌, ◌≤◌, min, Bool, true, false, not, cond, eqb, ◌&&◌, ◌||◌, IsTrue, List, [], ◌∷◌, ◌++◌, map, take, length, slice_index_or, Option, Some, None, is_some, All, refl, sym, ap, ◌∙◌, subst, arith, append_assoc, zero, suc, drop}
+use Rattle.std.proofs.Common.{◌≡◌, ◌⊎◌, inl, inr, ℕ, ◌+◌, ◌-◌, ◌^◌, ◌<◌, ◌≤◌, min, Bool, true, false, not, cond, eqb, ◌&&◌, ◌||◌, IsTrue, List, [], ◌∷◌, ◌++◌, map, take, length, slice_index_or, Option, Some, None, is_some, All, refl, sym, ap, ◌∙◌, subst, arith, append_assoc, zero, suc}
 use Rattle.std.specs.List.{list_any}
 use Rattle.std.proofs.lemmas.Bool.{false≢true}
 use Rattle.std.proofs.lemmas.Bool.Decides.{nat_tests}
-use Rattle.std.proofs.lemmas.List.{append-nil, length-append, length-take, length-drop, take-append-drop}
+use Rattle.std.proofs.lemmas.List.{append-nil}
 use Rattle.std.proofs.lemmas.List.Elements.{All-head, All-tail, All-weaker}
 use Rattle.std.proofs.lemmas.List.Folds.{list_any_more}
 use Rattle.wc_text.specs.declared.names.Cause.{Cause}
@@ -28,7 +28,7 @@ use Rattle.wc_servers.specs.Seats.{server_link}
 use Rattle.wc_core.proofs.DidLemmas.{or_else-none, saves-as, KeepsSaved-trans, close_of-append, KeepsClients-trans}
 use Rattle.wc_turns.specs.declared.links.Closed.{Closed}
 use Rattle.wc_turns.specs.Contained.{is_known, HasStarved, KeepsLinks}
-use Rattle.wc_turns.specs.Events.{is_tick, clock, clock_from, wake_events, events_of, loss_of, refused_since}
+use Rattle.wc_turns.specs.Events.{is_tick, clock, clock_from, wake_events, loss_of, refused_since}
 use Rattle.wc_turns.specs.Links.{link_number, is_undrained, is_blocked, changed_at, reported_state, is_there, kind_of}
 use Rattle.wc_turns.specs.Served.{leaving_closes, closed_number, MayRun, ReachesEvents}
 use Rattle.wc_turns.specs.Steps.{MarksLink, ReportsSources, BeginsTurn, SameKinds, TakesAside, WakesParties}
@@ -67,6 +67,9 @@ use Rattle.wc_board.specs.declared.connection.Connection.{Connection}
 use Rattle.wc_turns.specs.declared.links.LinkState.{LinkState}
 use Rattle.wc_eval.specs.Verdicts.{Oracle, Agrees}
 use Rattle.wc_core.proofs.OracleLemmas.{Agrees-before}
+use Rattle.wc_turns.specs.Goes.{AreEnds, DoesWhole}
+use Rattle.wc_turns.proofs.GoesLemmas.{Goes-both}
+use Rattle.wc_core.specs.Starts.{Starts}
 
 pub ReportsSources-none : (x : Headless) → ReportsSources x x []
 ReportsSources-none x = record {
@@ -197,11 +200,11 @@ and-if false b h = refl
 
 -- ---- the events of a wait
 
-pub MayRun-start : (old new : CoreView) (moment : ℕ) → Does old new (λ state. step state (Start moment)) → MayRun old new (wake_events None moment)
-MayRun-start old new moment does = MayRun-one old new (Start moment) does
+pub MayRun-start : (old new : CoreView) (moment : ℕ) → Does old new (λ state. step state (Start moment)) → Starts moment old new → MayRun old new (wake_events None moment)
+MayRun-start old new moment does starts = MayRun-one old new (Start moment) does (does, starts)
 
-pub MayRun-tick : (old new : CoreView) (last moment : ℕ) → is_tick last moment ≡ true → Does old new (λ state. step state (Tick moment)) → MayRun old new (wake_events (Some last) moment)
-MayRun-tick old new last moment e does = rw e (MayRun-one old new (Tick moment) does)
+pub MayRun-tick : (old new : CoreView) (last moment : ℕ) → is_tick last moment ≡ true → Does old new (λ state. step state (Tick moment)) → DoesWhole None old new (λ state. step state (Tick moment)) → MayRun old new (wake_events (Some last) moment)
+MayRun-tick old new last moment e does whole = rw e (MayRun-one old new (Tick moment) does whole)
 
 pub MayRun-still : (core : CoreView) (last moment : ℕ) → is_tick last moment ≡ false → MayRun core core (wake_events (Some last) moment)
 MayRun-still core last moment e = rw e (MayRun-none core)
@@ -241,9 +244,9 @@ wake-leaves k (Some last) moment state = by (is_tick last moment)
 
 -- the event of a wait, and the losses after it
 pub aside-after : (x c y : CoreView) (refused : List LinkId) (unlisted ran mid ran' moment : ℕ) (last : Option ℕ) → x.quits ≡ false → MayRun x c (wake_events last moment) → mid ≡ min (ran + length (wake_events last moment)) (2 ^ 64 - 1) → KeepsClients c y → y.quits ≡ c.quits → (1 ≤ unlisted → HasStarved c.starved y.starved)
-    → ((all : List Event) → (unlisted ≡ 0 → all ≡ map loss_of refused) → length all ≡ length refused + unlisted → TakesAside refused c y mid ran' all)
-    → (all : List Event) → (unlisted ≡ 0 → all ≡ wake_events last moment ++ map loss_of refused) → length all ≡ length (wake_events last moment) + length refused + unlisted → TakesAside refused x y ran ran' all
-aside-after x c y refused unlisted ran mid ran' moment last going woke count keeps quits starves loses all listed size = by unlisted refl
+    → ((all : List Event) → (unlisted ≡ 0 → all ≡ map loss_of refused) → length all ≡ length refused + unlisted → AreEnds all → TakesAside refused c y mid ran' all)
+    → (all : List Event) → (unlisted ≡ 0 → all ≡ map loss_of refused) → length all ≡ length refused + unlisted → AreEnds all → TakesAside refused x y ran ran' (wake_events last moment ++ all)
+aside-after x c y refused unlisted ran mid ran' moment last going woke count keeps quits starves loses all listed size ends = by unlisted refl
   where
     wake : List Event
     wake = wake_events last moment
@@ -258,13 +261,13 @@ aside-after x c y refused unlisted ran mid ran' moment last going woke count kee
     first : (es : List Event) → length es ≡ length wake → ReachesEvents x.quits c.quits ran mid es es
     first es same = ReachesEvents-all x.quits c.quits ran mid es going (λ fits. omega arith)
 
-    by : (n : ℕ) → unlisted ≡ n → TakesAside refused x y ran ran' all
+    by : (n : ℕ) → unlisted ≡ n → TakesAside refused x y ran ran' (wake ++ all)
     by zero none =
-        let t = loses (map loss_of refused) (λ q. refl) (let m = map-size refused in omega arith) in
-        subst (TakesAside refused x y ran ran') (sym (listed none)) (record {
+        let t = loses all listed size ends in
+        record {
           takes = record {
             events = wake ++ t.takes.events;
-            reaches = ReachesEvents-trans x.quits c.quits y.quits ran mid ran' wake (map loss_of refused) wake t.takes.events (λ over. absurd (false≢true (sym going ∙ over))) on (first wake refl) t.takes.reaches;
+            reaches = ReachesEvents-trans x.quits c.quits y.quits ran mid ran' wake all wake t.takes.events (λ over. absurd (false≢true (sym going ∙ over))) on (first wake refl) t.takes.reaches;
             takes = MayRun-then x c y wake t.takes.events t.takes.reaches.nothing woke t.takes.takes;
           };
           closes = λ aside still below distinct told were agrees k.
@@ -276,70 +279,20 @@ aside-after x c y refused unlisted ran mid ran' moment last going woke count kee
               let one = t.closes (λ j e. none_of _ (same-keys connection_link j c.connections x.connections woke.keeps.links ∙ ap is_some (aside j e))) (let f = still in omega arith) (let f = below in omega arith) (subst Distinct (sym woke.keeps.links) distinct) rows did.means.told (subst (λ (o : Oracle). Agrees o y.verdicts) (sym did.oracle) agrees) k in
               ap (close_of k) (run-append-acts (state_of x told) wake t.takes.events) ∙ close_of-append k (run (state_of x told) wake).acts (run (run (state_of x told) wake).state t.takes.events).acts
               ∙ ap (λ o. or_else o (close_of k (run (run (state_of x told) wake).state t.takes.events).acts)) (wake-leaves k last moment (state_of x told)) ∙ ap (λ s. close_of k (run s t.takes.events).acts) did.means.same ∙ one;
-        })
+        }
     by (suc n) some =
-        let start : List Event = take (length wake) all in
-        let rest : List Event = drop (length wake) all in
-        let fore : length start ≡ length wake = (let l = length-take (length wake) all in omega arith) in
-        let aft : length rest ≡ length refused + unlisted = (let l = length-append start rest in let w = ap length (take-append-drop (length wake) all) in omega arith) in
         let starved : HasStarved x.starved y.starved = starved-following x.starved c.starved y.starved woke.keeps.rises (starves (omega arith)) in
-        let t = loses rest (λ q. absurd (omega arith)) aft in
-        subst (TakesAside refused x y ran ran') (take-append-drop (length wake) all) (record {
+        let t = loses all listed size ends in
+        record {
           takes = record {
-            events = start ++ t.takes.events;
-            reaches = ReachesEvents-trans x.quits c.quits y.quits ran mid ran' start rest start t.takes.events (λ over. absurd (false≢true (sym going ∙ over))) on (first start fore) t.takes.reaches;
-            takes = MayRun-starved x y (start ++ t.takes.events) (KeepsClients-trans x c y woke.keeps keeps) starved;
+            events = wake ++ t.takes.events;
+            reaches = ReachesEvents-trans x.quits c.quits y.quits ran mid ran' wake all wake t.takes.events (λ over. absurd (false≢true (sym going ∙ over))) on (first wake refl) t.takes.reaches;
+            takes = MayRun-starved x y (wake ++ t.takes.events) (KeepsClients-trans x c y woke.keeps keeps) starved (Goes-both wake t.takes.events x c y woke.goes t.takes.takes.goes);
           };
           closes = λ aside still below distinct told were agrees k. no-starving x.starved y.starved starved still below;
-        })
+        }
 
 -- ---- a turn begins
-
--- the event of the wait is taken, and then the losses
-pub begin-takes : (x y z : CoreView) (last : Option ℕ) (moment : ℕ) (refused : List LinkId) (unlisted ran ran' ran'' : ℕ) → x.quits ≡ false → MayRun x y (wake_events last moment) → ran' ≡ min (ran + length (wake_events last moment)) (2 ^ 64 - 1) → KeepsClients y z → z.quits ≡ y.quits → (1 ≤ unlisted → HasStarved y.starved z.starved)
-    → ((all : List Event) → (unlisted ≡ 0 → all ≡ map loss_of refused) → length all ≡ length refused + unlisted → TakesAside refused y z ran' ran'' all)
-    → (all : List Event) → (unlisted ≡ 0 → all ≡ wake_events last moment ++ map loss_of refused) → length all ≡ length (wake_events last moment) + length refused + unlisted → TakesAside refused x z ran ran'' all
-begin-takes x y z last moment refused unlisted ran ran' ran'' going runs count keeps quits starves losses = begin-by unlisted starves losses
-  where
-    wake : List Event
-    wake = wake_events last moment
-
-    map-size : (links : List LinkId) → length (map loss_of links) ≡ length links
-    map-size [] = refl
-    map-size (l ∷ ls) = let ih = map-size ls in omega arith
-
-    reaches : (front more events : List Event) → ran' ≡ min (ran + length front) (2 ^ 64 - 1) → ReachesEvents y.quits z.quits ran' ran'' more events → ReachesEvents x.quits z.quits ran ran'' (front ++ more) (front ++ events)
-    reaches front more events c r = ReachesEvents-trans x.quits y.quits z.quits ran ran' ran'' front more front events (λ over. absurd (false≢true (sym going ∙ over))) (λ over. quits ∙ over) (ReachesEvents-all x.quits y.quits ran ran' front going (λ fits. c)) r
-
-    begin-by : (n : ℕ) → (1 ≤ n → HasStarved y.starved z.starved) → ((all : List Event) → (n ≡ 0 → all ≡ map loss_of refused) → length all ≡ length refused + n → TakesAside refused y z ran' ran'' all)
-        → (all : List Event) → (n ≡ 0 → all ≡ wake ++ map loss_of refused) → length all ≡ length wake + length refused + n → TakesAside refused x z ran ran'' all
-    begin-by zero starves' losses' all listed size =
-        let m = losses' (map loss_of refused) (λ q. refl) (let n = map-size refused in omega arith) in
-        subst (TakesAside refused x z ran ran'') (sym (listed refl)) (record {
-          takes = record { events = wake ++ m.takes.events; reaches = reaches wake (map loss_of refused) m.takes.events count m.takes.reaches; takes = MayRun-then x y z wake m.takes.events m.takes.reaches.nothing runs m.takes.takes };
-          closes = λ aside same below distinct told were agrees k.
-              let first = runs.keeps.rises in
-              let second = keeps.rises in
-              let half : y.starved ≡ x.starved = omega arith in
-              let did = runs.does half below distinct told were (Agrees-before told.oracle y.verdicts z.verdicts keeps.verdicts agrees) in
-              let rows = (beside (run (state_of x told) wake).state) in
-              let aside' : (link : ℕ) → is_refused link refused ≡ true → at_key connection_link link y.connections ≡ None = λ link e. none_of _ (same-keys connection_link link y.connections x.connections runs.keeps.links ∙ ap is_some (aside link e)) in
-              let later = m.closes aside' (omega arith) (omega arith) (subst Distinct (sym runs.keeps.links) distinct) rows did.means.told (subst (λ (o : Oracle). Agrees o z.verdicts) (sym did.oracle) agrees) k in
-              ap (close_of k) (run-append-acts (state_of x told) wake m.takes.events) ∙ close_of-append k (run (state_of x told) wake).acts (run (run (state_of x told) wake).state m.takes.events).acts
-              ∙ ap (λ o. or_else o (close_of k (run (run (state_of x told) wake).state m.takes.events).acts)) (wake-leaves k last moment (state_of x told))
-              ∙ ap (λ s. close_of k (run s m.takes.events).acts) did.means.same ∙ later;
-        })
-    begin-by (suc n) starves' losses' all listed size =
-        let front = take (length wake) all in
-        let more = drop (length wake) all in
-        let long = length-take (length wake) all in
-        let left = length-drop (length wake) all in
-        let m = losses' more (λ q. absurd (let r : suc n ≡ 0 = q in omega arith)) (omega arith) in
-        let starved : HasStarved x.starved z.starved = starved-following x.starved y.starved z.starved runs.keeps.rises (starves' (omega arith)) in
-        subst (TakesAside refused x z ran ran'') (take-append-drop (length wake) all) (record {
-          takes = record { events = front ++ m.takes.events; reaches = reaches front more m.takes.events (omega arith) m.takes.reaches; takes = MayRun-starved x z (front ++ m.takes.events) (KeepsClients-trans x y z runs.keeps keeps) starved };
-          closes = λ aside same below distinct told were agrees k. no-starving x.starved z.starved starved same below;
-        })
 
 pub begin-causes : (x y z : CoreView) (refused : List LinkId) → WakesParties x y → links_of y ≡ links_of x → (Distinct (links_of y) → (k : ℕ) → is_refused k refused ≡ false → StaysOrStarves (leaving_on k y.connections) (leaving_on k z.connections)) → Distinct (links_of x) → (k : ℕ) → is_refused k refused ≡ false → StaysOrStarves (leaving_on k x.connections) (leaving_on k z.connections)
 begin-causes x y z refused wakes links later distinct k out =
@@ -436,6 +389,7 @@ LoopStep-woke x y z a b m tokens call sent choked asked used there undrained lis
       reaches = rw (ap (λ taken. woke_events taken m) (s.spells (call.told t)), append-nil (woke_events a.taken m)) ((takes (s.told (call.told t) going)).takes.reaches);
       rises = keeps.rises;
       verdicts = keeps.verdicts;
+      goes = (takes (s.told (call.told t) going)).takes.takes.goes;
       advances = λ same below rows were agrees. advances t s same below rows were agrees (s.told (call.told t) going);
       silent = λ over. refl;
       ends = (tt, tt);
@@ -461,13 +415,17 @@ LoopStep-woke x y z a b m tokens call sent choked asked used there undrained lis
     map-size [] = refl
     map-size (l ∷ ls) = let ih = map-size ls in omega arith
 
+    losses-end : (links : List LinkId) → AreEnds (map loss_of links)
+    losses-end [] = tt
+    losses-end (l ∷ ls) = (refl, losses-end ls)
+
     takes : AgreesWithHappenings x.clock x.links.opened.items x.used x.ran x.refused.items x.unlisted a.taken → TakesAside x.refused.items x.core z.core x.ran z.ran (woke_events a.taken m)
     takes t =
         let P : CoreView → Type 0 = λ c. TakesAside x.refused.items x.core c x.ran z.ran (woke_events a.taken m) in
-        let size : length (woke_events a.taken m) ≡ length (wake_events x.clock m) + length x.refused.items + x.unlisted =
-        (let l = length-append (wake_events (clock a.taken) m) (map loss_of (refused_since a.taken)) in let n = map-size (refused_since a.taken) in let c = t.counted in let w = ap (λ o. length (wake_events o m)) t.clock in omega arith) in
+        let Q : Option ℕ → Type 0 = λ last. TakesAside x.refused.items x.core y.core x.ran y.ran (wake_events last m ++ map loss_of (refused_since a.taken)) in
+        let size : length (map loss_of (refused_since a.taken)) ≡ length x.refused.items + x.unlisted = (let n = map-size (refused_since a.taken) in let c = t.counted in omega arith) in
         subst P (sym reports.core) (subst (λ n. TakesAside x.refused.items x.core y.core x.ran n (woke_events a.taken m)) (sym reports.ran)
-        (begins.takes (woke_events a.taken m) (λ q. ap (λ o. wake_events o m ++ map loss_of (refused_since a.taken)) (sym t.clock) ∙ ap (λ links. wake_events x.clock m ++ map loss_of links) (sym (t.since q))) size))
+        (subst Q t.clock (begins.takes (map loss_of (refused_since a.taken)) (λ q. ap (map loss_of) (sym (t.since q))) size (losses-end (refused_since a.taken)))))
 
     reached : AgreesWithHappenings x.clock x.links.opened.items x.used x.ran x.refused.items x.unlisted a.taken → x.ran < 2 ^ 64 → z.core.quits ≡ false → z.ran ≡ min (x.ran + length (woke_events a.taken m)) (2 ^ 64 - 1)
     reached t count on =

@@ -1,6 +1,7 @@
 pub mod Contained
 pub mod Events
 pub mod Framed
+pub mod Goes
 pub mod Hands
 pub mod Heard
 pub mod Lines

@@ -18,6 +18,7 @@ use Rattle.wc_core.specs.State.{Beside}
 use Rattle.wc_turns.specs.declared.links.Closed.{Closed}
 use Rattle.wc_turns.specs.Run.{EndsAtQuit}
 use Rattle.wc_eval.specs.Verdicts.{Agrees}
+use Rattle.wc_turns.specs.Goes.{Goes}
 
 -- the close that a client asks for, if it is leaving
 abbrev pub closed_by : LinkId → Option Cause → List Closed
@@ -47,6 +48,8 @@ pub record ReachesEvents (quits quits' : Bool) (ran ran' : ℕ) (all events : Li
 -- the core takes events, unless some growth was refused
 pub record MayRun (old new : CoreView) (events : List Event) : Type 0 where
   pub keeps : KeepsClients old new
+  -- whatever memory is refused
+  pub goes : Goes events old new
   pub does : new.starved ≡ old.starved → old.starved < 2 ^ 64 - 1 → Distinct (links_of old) →
       (told : Beside) → WereTold old told → Agrees told.oracle new.verdicts →
       Follows told old new (run (state_of old told) events)

@@ -1,6 +1,6 @@
 -- What the frames of WebSocket links come to, and what is put into frames.
-use Rattle.std.specs.Prelude.{◌≡◌, ℕ, ◌+◌, ◌-◌, ◌^◌, ◌<◌, ◌≤◌, ◌&&◌, Bool, true, false, List, [], ◌∷◌, ◌++◌}
-use Rattle.std.specs.Prelude.{length, Option, Some, None, IfSome, is_none, min}
+use Rattle.std.specs.Prelude.{◌≡◌, ℕ, ◌&&◌, Bool, true, false, List, [], ◌++◌}
+use Rattle.std.specs.Prelude.{Option, Some, None, IfSome, is_none}
 use Rattle.wc_text.specs.declared.names.Cause.{Cause}
 use Rattle.wc_text.specs.declared.names.Cause.TheVariants.{Ended, Failed, LoginFailed, NoMemory}
 use Rattle.wc_text.specs.declared.names.Cause.TheVariants.{Surplus, Quit, Disconnected, NickTaken}

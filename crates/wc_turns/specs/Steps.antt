@@ -33,6 +33,7 @@ use Rattle.wc_turns.specs.Events.{clock_from, wake_events, loss_of}
 use Rattle.wc_turns.specs.Links.{link_number, is_undrained, is_blocked, kind_of, new_state}
 use Rattle.wc_turns.specs.Tails.{IsTail}
 use Rattle.wc_eval.specs.Verdicts.{Agrees}
+use Rattle.wc_turns.specs.Goes.{Goes, LosesWhole, AreEnds}
 
 -- what comes after the last LF of each link is as before
 abbrev pub SameTails : List LinkState → List LinkState → Type 0
@@ -153,6 +154,7 @@ pub record WakesParties (x y : CoreView) : Type 0 where
 -- server comes, and others leave as they did, or clients for want of memory.
 pub record LosesLink (link : ℕ) (cause : Cause) (x y : CoreView) : Type 0 where
   pub keeps : KeepsClients x y
+  pub whole : LosesWhole link cause x y
   pub quits : y.quits ≡ x.quits
   pub gone : is_open_at (at_key connection_link link y.connections) ≡ false
   pub server : LosesServer (is_open_at (at_key connection_link link x.connections)) link cause
@@ -179,10 +181,9 @@ pub record TakesAside (aside : List LinkId) (x y : CoreView) (ran ran' : ℕ) (a
 -- is counted, as that of a link whose number is never used.
 pub record BeginsTurn (x y : Headless) (moment : ℕ) : Type 0 where
   pub keeps : KeepsClients x.core y.core
-  pub takes : (all : List Event) →
-      (x.unlisted ≡ 0 → all ≡ wake_events x.clock moment ++ map loss_of x.refused.items)
-      → length all ≡ length (wake_events x.clock moment) + length x.refused.items + x.unlisted →
-      TakesAside x.refused.items x.core y.core x.ran y.ran all
+  pub takes : (lost : List Event) → (x.unlisted ≡ 0 → lost ≡ map loss_of x.refused.items)
+      → length lost ≡ length x.refused.items + x.unlisted → AreEnds lost →
+      TakesAside x.refused.items x.core y.core x.ran y.ran (wake_events x.clock moment ++ lost)
   pub causes : Distinct (links_of x.core) → (link : ℕ) → is_refused link x.refused.items ≡ false →
       StaysOrStarves (leaving_on link x.core.connections) (leaving_on link y.core.connections)
   pub used : y.used ≡ x.used
@@ -271,6 +272,7 @@ TakesWanted false x y wanted refused = TakesLink x y wanted refused
 -- these connections are lost, one after another
 pub record LosesEach (links : List LinkId) (x y : CoreView) : Type 0 where
   pub runs : MayRun x y (map loss_of links)
+  pub goes : Goes [] x y
   pub quits : y.quits ≡ x.quits
   pub wanted : y.servers.wanted ≡ x.servers.wanted
   pub causes : Distinct (links_of x) → (link : ℕ) → is_refused link links ≡ false →
@@ -284,6 +286,7 @@ pub record LosesEach (links : List LinkId) (x y : CoreView) : Type 0 where
 -- so many more were lost that are not listed: want of memory is counted where there are any
 pub record MissesUnlisted (unlisted : ℕ) (x y : CoreView) : Type 0 where
   pub keeps : KeepsClients x y
+  pub goes : Goes [] x y
   pub quits : y.quits ≡ x.quits
   pub wanted : y.servers.wanted ≡ x.servers.wanted
   pub none : unlisted ≡ 0 → y ≡ x
@@ -298,7 +301,7 @@ pub record LosesRefused (x y : Headless) : Type 0 where
   pub wanted : y.core.servers.wanted ≡ x.core.servers.wanted
   pub starves : 1 ≤ x.unlisted → HasStarved x.core.starved y.core.starved
   pub takes : (all : List Event) → (x.unlisted ≡ 0 → all ≡ map loss_of x.refused.items)
-      → length all ≡ length x.refused.items + x.unlisted →
+      → length all ≡ length x.refused.items + x.unlisted → AreEnds all →
       TakesAside x.refused.items x.core y.core x.ran y.ran all
   pub causes : Distinct (links_of x.core) → (link : ℕ) → is_refused link x.refused.items ≡ false →
       StaysOrStarves (leaving_on link x.core.connections) (leaving_on link y.core.connections)

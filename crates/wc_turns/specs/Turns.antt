@@ -55,6 +55,7 @@ use Rattle.wc_turns.specs.Parties.{closes_asked}
 use Rattle.wc_turns.specs.Served.{ReachesEvents, MayTake}
 use Rattle.wc_turns.specs.Tails.{IsTail}
 use Rattle.wc_eval.specs.Verdicts.{Agrees, Stay}
+use Rattle.wc_turns.specs.Goes.{Goes}
 
 -- the framing of a client's link, which is to be closed as a WebSocket or not, is what its bytes make
 -- of it
@@ -289,6 +290,8 @@ pub record CoreTakes (history : List Heard) (a b : Moment) (ran ran' : ℕ) (clo
   pub reaches : ReachesEvents a.core.quits b.core.quits ran ran' (events_from history more) events
   pub rises : a.core.starved ≤ b.core.starved
   pub verdicts : Stay a.core.verdicts b.core.verdicts
+  -- whatever memory is refused
+  pub goes : Goes events a.core b.core
   pub advances : b.core.starved ≡ a.core.starved → a.core.starved < 2 ^ 64 - 1 → (told : Beside) →
       WereTold a.core told → Agrees told.oracle b.core.verdicts →
       MomentAdvances told a b closed events

@@ -1,7 +1,7 @@
 use Rattle.std.proofs.Common.{sym, ap, ◌∙◌, arith}
 use Rattle.std.specs.Io.KnownBytes.{append_known}
 use Rattle.wc_loop.specs.Endings.{number_of, counts_in, status_of}
-use Rattle.wc_loop.proofs.OutcomeLemmas.{IsNumber-runs, StatusOf-runs, Common-runs, Waits-runs, Demo-runs, IfSome-headline, IfSome-agrees, IfSome-calm, IfSome-causes}
+use Rattle.wc_loop.proofs.OutcomeLemmas.{IsNumber-runs, StatusOf-runs, Common-runs, Waits-runs, Demo-runs, IfSome-headline, IfSome-agrees, IfSome-calm, IfSome-causes, IfSome-takes}
 use Rattle.wc_loop.proofs.EndingLemmas.{held-saved}
 use Rattle.wc_loop.proofs.MirrorLemmas.{ClientsHoldDumps-last}
 use Rattle.wc_loop.proofs.WordsLemmas.{commands_texts}
@@ -13,6 +13,13 @@ returns-clause-headline g c =
     let runs = rw c.as_slice.ensures.value at c.run_words-outcome.ensures.runs in
     let common = Common-runs _ _ _ _ _ (seen c.args.sockets.now) (seen c.run_words-outcome.new.sockets) _ _ c.requires runs in
     rw c.end.ensures.last (IfSome-headline _ _ _ _ _ common.left)
+
+pub returns-clause-contained : goal.returns-clause-contained
+returns-clause-contained g c =
+    let seen = g.S.Sockets.seen in
+    let runs = rw c.as_slice.ensures.value at c.run_words-outcome.ensures.runs in
+    let common = Common-runs _ _ _ _ _ (seen c.args.sockets.now) (seen c.run_words-outcome.new.sockets) _ _ c.requires runs in
+    rw c.end.ensures.last (IfSome-takes _ _ _ _ _ common.left)
 
 pub returns-clause-mirrored : goal.returns-clause-mirrored
 returns-clause-mirrored g c = ClientsHoldDumps-last _ (commands_texts c.args.words.now.items) _ _ _

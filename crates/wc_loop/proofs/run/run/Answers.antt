@@ -3,7 +3,7 @@ use Rattle.wc_outside.specs.declared.happening.Asked.TheVariants.{Listen, Connec
 use Rattle.wc_loop.specs.Endings.{kept_of}
 use Rattle.wc_turns.specs.Turns.{wake_count, listen_faults}
 use Rattle.wc_loop.proofs.EndingLemmas.{Runs-early, Runs-following, known-readable, known-port, kept-text, not-keeper, keeper-of, kept_of-none, held-earlier, closes-last, none-asked}
-use Rattle.wc_loop.proofs.HeadlineLemmas.{AgreesWithSockets-first, Fresh-listening, HandsOut-run, Headline-known, IfSome-last}
+use Rattle.wc_loop.proofs.HeadlineLemmas.{AgreesWithSockets-first, Fresh-listening, HandsOut-run, Headline-known, IfSome-last, TakesEach-run}
 use Rattle.wc_loop.proofs.ProgramLemmas.{Rose-before, faults-told}
 use Rattle.wc_turns.proofs.ServeLemmas.{AllServed-following, AllSent-following}
 use Rattle.wc_turns.proofs.SourceLemmas.{later-of}
@@ -45,6 +45,7 @@ returns-clause-runs g c =
       sent = λ q. AllSent-following c.take_turns-then.new.headless (seen c.args.sockets.now) (seen c.listen.new.self) (seen c.take_turns-then.new.sockets) (record { told = listened.told; more = []; taken = listened.taken }) (later-of _ _ ran.continues.step) listened.counts (ran.sent q);
       left = λ above. record {
         headline = Headline-known _ _ c.in-Ok.made.headless _ _ _ c.in-Ok.ensures.known (λ t fed rows were judged. HandsOut-run c.in-Ok.made.headless c.take_turns-then.new.headless (seen c.listen.new.self) (seen c.take_turns-then.new.sockets) c.in-Ok.made.port ran.continues.step first fresh heard ran.calm t fed rows were judged);
+        takes = TakesEach-run _ _ c.in-Ok.made.headless c.take_turns-then.new.headless (seen c.listen.new.self) (seen c.take_turns-then.new.sockets) c.in-Ok.made.port c.in-Ok.ensures.known ran.continues.step first fresh;
         agrees = ran.agrees;
         calm = ran.calm;
         causes = (let turn = ran.causes above in closes-last _ _ c.in-Ok.made.headless c.take_turns-then.new.headless (seen c.args.sockets.now) (seen c.listen.new.self) (seen c.take_turns-then.new.sockets) listened.counts turn (Headline-known _ _ c.in-Ok.made.headless _ turn.seen turn.earlier c.in-Ok.ensures.known (λ t fed rows were judged. HandsOut-run c.in-Ok.made.headless turn.earlier (seen c.listen.new.self) turn.seen c.in-Ok.made.port turn.until first fresh heard turn.calm t fed rows were judged)));

@@ -41,7 +41,7 @@ returns-in_default g c =
       continues = record { faults = e.continues.faults; fits = e.continues.fits; step = LoopStep-turn c.turn.result e.continues.faults c.loop.counter c.args.headless.now c.loop.headless c.turn.new.self (seen c.args.sockets.now) (seen c.loop.sockets) (seen c.turn.new.sockets) i.count (omega arith) i.continues e.continues.step };
       agrees = e.agrees;
       calm = e.calm;
-      causes = λ above. record { earlier = c.loop.headless; seen = seen c.loop.sockets; end = c.turn.result; waits = c.loop.counter; until = i.continues; agrees = i.agrees; calm = i.calm; turn = e.continues; causes = e.causes };
+      causes = λ above. record { earlier = c.loop.headless; seen = seen c.loop.sockets; end = c.turn.result; waits = c.loop.counter; until = i.continues; agrees = i.agrees; calm = i.calm; turn = e.continues; causes = e.causes; closes = e.closes };
       served = λ q. absurd (c.in_default.not-GoOn q);
       sent = λ q. AllSent-following c.turn.new.self (seen c.args.sockets.now) (seen c.loop.sockets) (seen c.turn.new.sockets) (later-of _ _ i.continues) (later-of _ _ e.continues.step) i.continues.counts (e.sent q);
       quit = e.quit;
@@ -91,7 +91,7 @@ loop-preserved g c =
       agrees = e.agrees;
       calm = e.calm;
       going = e.goes_on refl;
-      causes = λ above. record { earlier = c.loop.headless; seen = seen c.loop.sockets; end = GoOn; waits = c.loop.counter; until = i.continues; agrees = i.agrees; calm = i.calm; turn = e.continues; causes = e.causes };
+      causes = λ above. record { earlier = c.loop.headless; seen = seen c.loop.sockets; end = GoOn; waits = c.loop.counter; until = i.continues; agrees = i.agrees; calm = i.calm; turn = e.continues; causes = e.causes; closes = e.closes };
       served = λ one. AllServed-following c.turn.new.self (seen c.args.sockets.now) (seen c.loop.sockets) (seen c.turn.new.sockets) (later-of _ _ i.continues) (later-of _ _ e.continues.step) (e.served refl);
       written = e.written (λ q. cc);
       saves = λ first had. e.saves (λ q. cc) first (i.saves first had);

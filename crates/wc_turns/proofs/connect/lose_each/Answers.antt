@@ -15,7 +15,7 @@ loop-link-preserved c =
     record {
       going = quits ∙ c.loop-link.invariant.going;
       loses = subst (λ links. LosesEach links c.args.core.now c.link_gone.new.self) (sym (take_more c.args.links.now c.loop-link.link-index _ c.loop-link-test.true))
-          (LosesEach-more c.args.core.now c.loop-link.core c.link_gone.new.self (take c.loop-link.link-index c.args.links.now) _ c.loop-link.invariant.going c.loop-link.invariant.loses e.does quits e.servers);
+          (LosesEach-more c.args.core.now c.loop-link.core c.link_gone.new.self (take c.loop-link.link-index c.args.links.now) _ c.loop-link.invariant.going c.loop-link.invariant.loses e.does quits e.servers (record { does = e.does; contained = e.contained; counted = e.counts; drops = e.drops }));
     }
 
 pub returns : goal.returns

@@ -1,4 +1,4 @@
-use Rattle.std.proofs.Common.{ap, arith, refl}
+use Rattle.std.proofs.Common.{ap, arith, inr, refl}
 use Rattle.wc_text.specs.declared.names.Cause.TheVariants.{NoMemory}
 use Rattle.wc_outside.specs.Keyed.{at_key}
 use Rattle.wc_board.specs.Connections.{connection_link, is_open_at}
@@ -8,6 +8,7 @@ use Rattle.wc_turns.proofs.LossLemmas.{starved-stays}
 use Rattle.wc_turns.proofs.SeatLemmas.{loses-keeps}
 use Rattle.wc_turns.proofs.connect.miss_unlisted.Goals as goal
 use Rattle.wc_core.specs.Served.{plain_beside}
+use Rattle.wc_turns.proofs.GoesLemmas.{Goes-lost}
 
 pub returns-then-unlisted-gt0 : goal.returns-then-unlisted-gt0
 returns-then-unlisted-gt0 c =
@@ -16,6 +17,7 @@ returns-then-unlisted-gt0 c =
     let keeps = (e.does (plain_beside old)).keeps in
     record {
       keeps = keeps;
+      goes = Goes-lost 18446744073709551615 NoMemory old c.link_gone.new.self (inr refl) (record { does = e.does; contained = e.contained; counted = e.counts; drops = e.drops });
       quits = ap (λ (v : CoreView). v.quits) e.stays;
       wanted = (loses-keeps (is_open_at (at_key connection_link 18446744073709551615 old.connections)) 18446744073709551615 NoMemory old.servers c.link_gone.new.self.servers e.servers).wanted;
       none = λ none. absurd (let some = c.if-unlisted-gt0.true in omega arith);

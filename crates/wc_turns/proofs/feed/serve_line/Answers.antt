@@ -14,4 +14,4 @@ returns-clause-does c =
     let fits = c.if-line-gt-LINE_LIMIT.false in
     let below : nat_le (length c.args.line.now) line_limit ≡ true = grind (arith, nat_tests, fits) in
     let P : List ℕ → Type 0 = λ line. MayRun c.args.core.now c.relay_line.new.self (Line c.args.link.0 line ∷ []) in
-    rw below (subst P c.without_cr.ensures (MayRun-one c.args.core.now c.relay_line.new.self (Line c.args.link.0 c.without_cr.result.now) c.relay_line.ensures.does))
+    rw below (subst P c.without_cr.ensures (MayRun-one c.args.core.now c.relay_line.new.self (Line c.args.link.0 c.without_cr.result.now) c.relay_line.ensures.does (record { does = c.relay_line.ensures.does; contained = c.relay_line.ensures.contained; counted = c.relay_line.ensures.counted; drops = c.relay_line.ensures.drops })))

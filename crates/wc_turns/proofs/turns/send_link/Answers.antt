@@ -1,4 +1,4 @@
-use Rattle.std.proofs.Common.{refl, ap, ◌∙◌}
+use Rattle.std.proofs.Common.{refl}
 use Rattle.wc_turns.proofs.TurnLemmas.{LoopStep-trans}
 use Rattle.wc_turns.proofs.SendLemmas.{LoopStep-put, SendsOn-put}
 use Rattle.wc_turns.proofs.SourceLemmas.{later-of, left-same, TakesNothing-trans}

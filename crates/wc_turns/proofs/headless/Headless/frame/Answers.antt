@@ -9,7 +9,7 @@ pub returns-in-Some-NoMemory : goal.returns-in-Some-NoMemory
 returns-in-Some-NoMemory c =
     let e = c.link_gone.ensures in
     let mid = c.frame_unsent.new.self in
-    let loses = LosesLink-of mid.core c.link_gone.new.self c.args.link.0 NoMemory e.does e.stays e.gone e.servers in
+    let loses = LosesLink-of mid.core c.link_gone.new.self c.args.link.0 NoMemory e.does e.stays e.gone e.servers (record { does = e.does; contained = e.contained; counted = e.counts; drops = e.drops }) in
     Loses-starved c.args.link.0 c.args.self.now mid _ (rw c.in-Some-NoMemory.field-0-is at c.in-Some-NoMemory.ensures) refl loses (starved-counted mid.core.starved mid.core.starved c.link_gone.new.self.starved (omega arith) loses.keeps.rises (e.counted refl))
 
 pub returns-in-Some-NotTaken : goal.returns-in-Some-NotTaken

@@ -16,7 +16,7 @@ returns-then-quits c =
       quits = m.quits;
       wanted = m.wanted;
       starves = m.starves;
-      takes = λ all listed size. lost-over old.core c.miss_unlisted.new.core old.refused.items old.unlisted old.ran (sym m.quits) over m all;
+      takes = λ all listed size ends. lost-over old.core c.miss_unlisted.new.core old.refused.items old.unlisted old.ran (sym m.quits) over m all;
       causes = λ distinct k out. m.causes distinct k;
       counts = λ e. e;
       refused = ap (λ v. v.items) c.replace-refused.ensures.after ∙ c.new.ensures.items;
@@ -41,8 +41,8 @@ returns c =
       quits = each.quits ∙ m.quits;
       wanted = each.wanted ∙ m.wanted;
       starves = λ some. starved-later old.core.starved c.miss_unlisted.new.core.starved c.lose_each.new.core.starved each.runs.keeps.rises (m.starves some);
-      takes = λ all listed size. lost-all old.core c.miss_unlisted.new.core c.lose_each.new.core old.refused.items old.unlisted old.ran c.saturating_add-self.result going m each
-          (let a = c.saturating_add-self.ensures in let b = c.saturating_add.ensures in let l = c.len-listed.ensures in let s = ap (λ v. length v.items) c.replace-refused.ensures.value in omega arith) all listed size;
+      takes = λ all listed size ends. lost-all old.core c.miss_unlisted.new.core c.lose_each.new.core old.refused.items old.unlisted old.ran c.saturating_add-self.result going m each
+          (let a = c.saturating_add-self.ensures in let b = c.saturating_add.ensures in let l = c.len-listed.ensures in let s = ap (λ v. length v.items) c.replace-refused.ensures.value in omega arith) all listed size ends;
       causes = λ distinct k out. lost-causes old.core c.miss_unlisted.new.core c.lose_each.new.core old.refused.items old.unlisted m each distinct k out;
       counts = λ e. (let a = c.saturating_add-self.ensures in let b = c.saturating_add.ensures in omega arith);
       refused = ap (λ v. v.items) c.replace-refused.ensures.after ∙ c.new.ensures.items;

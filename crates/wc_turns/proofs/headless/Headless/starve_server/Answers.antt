@@ -17,6 +17,6 @@ returns-clause-drops c =
     record {
       starved = starved-counted x.starved x.starved c.forget.new.self.starved low (omega arith) (λ below. (let more = e.counted refl below in omega arith));
       lost = lost;
-      loses = LosesLink-of x lost c.args.link.0 NoMemory e.does e.stays e.gone e.servers;
+      loses = LosesLink-of x lost c.args.link.0 NoMemory e.does e.stays e.gone e.servers (record { does = e.does; contained = e.contained; counted = e.counts; drops = e.drops });
       forgets = c.forget.ensures;
     }

@@ -4,7 +4,7 @@ use Rattle.wc_turns.proofs.WakeLemmas.{MayRun-start, MayRun-tick, start-causes, 
 use Rattle.wc_turns.proofs.headless.Headless.wake_core.Goals as goal
 
 pub returns-in_default-clause-takes : goal.returns-in_default-clause-takes
-returns-in_default-clause-takes c = rw (c.in_default.is, c.reach.ensures) (MayRun-start c.args.self.now.core c.start.new.self c.args.moment c.start.ensures.does)
+returns-in_default-clause-takes c = rw (c.in_default.is, c.reach.ensures) (MayRun-start c.args.self.now.core c.start.new.self c.args.moment c.start.ensures.does c.start.ensures.each)
 
 pub returns-in_default-clause-causes : goal.returns-in_default-clause-causes
 returns-in_default-clause-causes c = rw c.reach.ensures (record { causes = λ distinct k. start-causes c.args.self.now.core c.start.new.self c.args.moment c.start.ensures.does distinct k })
@@ -19,7 +19,7 @@ returns-then-not-is_tick-clause-ran c =
 pub returns-clause-takes : goal.returns-clause-takes
 returns-clause-takes c =
     let test : is_tick c.in-Some.last c.args.moment ≡ true = sym c.is_tick.ensures ∙ c.if-not-is_tick.false in
-    rw (c.in-Some.is, c.reach-2.ensures) (MayRun-tick c.args.self.now.core c.tick.new.self c.in-Some.last c.args.moment test c.tick.ensures.does)
+    rw (c.in-Some.is, c.reach-2.ensures) (MayRun-tick c.args.self.now.core c.tick.new.self c.in-Some.last c.args.moment test c.tick.ensures.does (record { does = c.tick.ensures.does; contained = c.tick.ensures.contained; counted = c.tick.ensures.counted; drops = c.tick.ensures.drops }))
 
 pub returns-clause-causes : goal.returns-clause-causes
 returns-clause-causes c = rw c.reach-2.ensures (record { causes = λ distinct k. tick-causes c.args.self.now.core c.tick.new.self c.args.moment c.tick.ensures.does distinct k })
