@@ -17,8 +17,7 @@ use Rattle.wc_core.specs.Served.{outs_of}
 use Rattle.wc_core.specs.ServersKept.{partings_of}
 use Rattle.wc_session.specs.Sending.{spelling}
 use Rattle.wc_turns.specs.declared.links.Closed.{Closed}
-use Rattle.wc_turns.specs.Run.{close_of_parting}
-use Rattle.wc_turns.specs.Served.{leaving_closes}
+use Rattle.wc_turns.specs.Run.{close_of_parting, leaving_closes}
 
 -- whether a link has a client or a server, which may be leaving
 abbrev pub has_party : ℕ → CoreView → Bool

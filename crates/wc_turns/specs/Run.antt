@@ -1,6 +1,9 @@
 -- What a run closes, and where it ends.
-use Rattle.std.specs.Prelude.{◌≡◌, true, List, [], ◌∷◌, if◌then◌else◌}
+use Rattle.std.specs.Prelude.{◌≡◌, true, List, [], ◌∷◌, ◌++◌, if◌then◌else◌, Option, Some, None}
 use Rattle.std.specs.List.{flat_map}
+use Rattle.wc_text.specs.declared.names.LinkId.{LinkId}
+use Rattle.wc_text.specs.declared.names.Cause.{Cause}
+use Rattle.wc_board.specs.declared.connection.Connection.{Connection}
 use Rattle.wc_core.specs.Events.{Event}
 use Rattle.wc_core.specs.State.{State, Act, Sends, Closes, Serves, Quits, has_end}
 use Rattle.wc_servers.specs.Outs.{Out, SendsLine, Connects, Parts}
@@ -14,6 +17,17 @@ close_of_parting parting = record {
   link = record { 0 = parting.link };
   cause = parting.cause;
 }
+
+-- the close that a client asks for, if it is leaving
+abbrev pub closed_by : LinkId → Option Cause → List Closed
+closed_by link None = []
+closed_by link (Some cause) = record { link = link; cause = cause } ∷ []
+
+-- the closes that clients ask for, in the order in which they came
+abbrev pub leaving_closes : List Connection → List Closed
+leaving_closes [] = []
+leaving_closes (connection ∷ connections) = closed_by connection.session.client.link
+    connection.leaving ++ leaving_closes connections
 
 -- the link that goes out for a server as a close, with its cause
 abbrev pub out_closes : Out → List Closed

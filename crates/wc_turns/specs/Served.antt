@@ -1,7 +1,6 @@
 -- The clients and servers of the core, as the loop serves them.
 use Rattle.std.specs.Prelude.{ℕ, ◌+◌, ◌-◌, ◌^◌, ◌≡◌, ◌<◌, ◌≤◌, Bool, true, false, min}
-use Rattle.std.specs.Prelude.{List, [], ◌∷◌, ◌++◌, length, Option, Some, None}
-use Rattle.wc_text.specs.declared.names.LinkId.{LinkId}
+use Rattle.std.specs.Prelude.{List, [], ◌++◌, length, Option, Some, None}
 use Rattle.wc_text.specs.declared.names.Cause.{Cause}
 use Rattle.wc_text.specs.declared.names.Cause.TheVariants.{Ended, Failed, LoginFailed, NoMemory}
 use Rattle.wc_text.specs.declared.names.Cause.TheVariants.{Surplus, Quit, Disconnected, NickTaken}
@@ -17,19 +16,9 @@ use Rattle.wc_core.specs.ServersKept.{ServersKeep}
 use Rattle.wc_core.specs.State.{Beside}
 use Rattle.wc_turns.specs.declared.links.Closed.{Closed}
 use Rattle.wc_turns.specs.Run.{EndsAtQuit}
+pub use Rattle.wc_turns.specs.Run.{closed_by, leaving_closes}
 use Rattle.wc_eval.specs.Verdicts.{Agrees}
 use Rattle.wc_turns.specs.Goes.{Goes}
-
--- the close that a client asks for, if it is leaving
-abbrev pub closed_by : LinkId → Option Cause → List Closed
-closed_by link None = []
-closed_by link (Some cause) = record { link = link; cause = cause } ∷ []
-
--- the closes that clients ask for, in the order in which they came
-abbrev pub leaving_closes : List Connection → List Closed
-leaving_closes [] = []
-leaving_closes (connection ∷ connections) = closed_by connection.session.client.link
-    connection.leaving ++ leaving_closes connections
 
 -- no client is leaving
 abbrev pub NobodyLeaving : List Connection → Type 0
