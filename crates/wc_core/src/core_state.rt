@@ -270,7 +270,7 @@ impl Core {
             } }
         ensures refused { IfSome result
             (λ cause. self.new ≡ record self.old {
-              starved = self.new.starved;
+              starved = starved_by cause self.old.starved;
               servers = used_up arrival.link.0 self.old.servers;
             }) }
         ensures cause { IfSome result (λ cause. (cause ≡ Cause.Surplus)
@@ -287,6 +287,19 @@ impl Core {
             return Some(Cause::NoMemory);
         }
         None
+    }
+
+    /// Refuses an arrival for whose link there is no memory: its number is used, and that is
+    /// counted.
+    pub fn refuse_link(&mut self, link: LinkId)
+        ensures counted { self.new ≡ record self.old {
+          starved = min (self.old.starved + 1) (2 ^ 64 - 1);
+          servers = used_up link.0 self.old.servers;
+        } }
+        ensures rises { self.old.starved ≤ self.new.starved }
+    {
+        self.servers.use_up(link);
+        self.count_starved(1);
     }
 
     /// Serves a line of a link: that of an open client, where it is a request, or else that of a

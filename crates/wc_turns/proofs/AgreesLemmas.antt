@@ -11,12 +11,13 @@ use Rattle.wc_outside.specs.declared.happening.Happening.{Happening}
 use Rattle.wc_outside.specs.declared.happening.Happening.TheVariants.{Woke, Accepted, Read, Ended, Failed, Connected, Refused, ListenFailed}
 use Rattle.wc_turns.specs.declared.links.LinkState.{LinkState}
 use Rattle.wc_outside.specs.Keyed.{at_key, put_at, without, IsKeyPlace}
-use Rattle.wc_turns.specs.Links.{Kind, link_number, is_connecting, kind_of, changed_at, standing_state}
+use Rattle.wc_turns.specs.Links.{Kind, link_number, is_connecting, kind_of, changed_at, standing_state, IsUnkept, AreAllBut}
 use Rattle.wc_turns.specs.Events.{bytes_on, stands_at, has_stood, clock, clock_from, is_tick, refused_from, refused_since, woke_events}
 use Rattle.wc_turns.specs.Steps.{SameKinds}
 use Rattle.wc_turns.specs.Turns.{AgreesWithHappenings}
-use Rattle.wc_turns.proofs.KeyedLemmas.{at_key-key, at_key-put_other, at_key-put_same, at_key-filter_other, at_key-filter_same, none_of, same-keys, or-false}
-use Rattle.wc_turns.proofs.ChangedLemmas.{changed, at_key-changed, keeps-standing}
+use Rattle.wc_turns.proofs.KeyedLemmas.{at_key-key, at_key-put_none, at_key-put_other, at_key-put_same, at_key-push_other, at_key-filter_other, at_key-filter_same, none_of, same-keys, or-false}
+use Rattle.wc_turns.proofs.ChangedLemmas.{changed, at_key-changed, keeps-standing, numbers-changed}
+use Rattle.wc_turns.proofs.ListedLemmas.{since-as}
 
 pub text-push : (k : ℕ) (taken : List Happening) (h : Happening) → flat_map (bytes_on k) (taken ++ h ∷ []) ≡ flat_map (bytes_on k) taken ++ bytes_on k h
 text-push k taken h = flat_map-append (bytes_on k) taken (h ∷ []) ∙ ap (λ bytes. flat_map (bytes_on k) taken ++ bytes) (append-nil (bytes_on k h))
@@ -129,7 +130,7 @@ For-quiet clocked states used ran ran' refused unlisted taken h n q timeless kee
   unmade = λ k l. stood-quiet k taken h (u k) ∙ s.unmade k l;
   stood = λ k. rw (stood-quiet k taken h (u k)) (s.stood k);
   unread = λ k c. text-quiet k taken h (q k) ∙ s.unread k c;
-  since = λ z. s.since z ∙ sym (since-kept taken h keeps);
+  since = subst (AreAllBut (IsUnkept states used) refused) (sym (since-kept taken h keeps)) s.since;
   counted = s.counted ∙ ap length (sym (since-kept taken h keeps));
   within = s.within;
   silent = λ z. absurd (let p = none-before ran ran' n count z in let m = p.1 in omega arith);
@@ -145,7 +146,7 @@ For-woke clocked states used ran ran' moment refused unlisted taken count s = re
   unmade = λ k l. stood-quiet k taken (Woke moment) refl ∙ s.unmade k l;
   stood = λ k. rw (stood-quiet k taken (Woke moment) refl) (s.stood k);
   unread = λ k c. text-quiet k taken (Woke moment) refl ∙ s.unread k c;
-  since = λ z. sym (refused-push [] taken (Woke moment));
+  since = subst (AreAllBut (IsUnkept states used) []) (sym (refused-push [] taken (Woke moment))) tt;
   counted = ap length (sym (refused-push [] taken (Woke moment)));
   within = omega arith;
   silent = λ z. absurd (begun z);
@@ -192,7 +193,7 @@ connecting-or o o' (inl e) c = absurd (false≢true (sym (ap is_connecting e) �
 connecting-or o o' (inr e) c = connecting-as o o' e c
 
 pub For-states : (clocked : Option ℕ) (states states' : List LinkState) (used ran : ℕ) (refused : List LinkId) (unlisted : ℕ) (taken : List Happening) → SameKinds states states' → ((k : ℕ) → at_key link_number k states ≡ None → at_key link_number k states' ≡ None) → AgreesWithHappenings clocked states used ran refused unlisted taken → AgreesWithHappenings clocked states' used ran refused unlisted taken
-For-states clocked states states' used ran refused unlisted taken kinds missing s = record { unmade = s.unmade; stood = λ k. kept-or (has_stood k taken) (at_key link_number k states) (at_key link_number k states') (kinds k) (s.stood k); unread = λ k c. s.unread k (connecting-or (at_key link_number k states) (at_key link_number k states') (kinds k) c); clock = s.clock; fresh = s.fresh; since = s.since; counted = s.counted; within = s.within; silent = s.silent; empty = λ z k. missing k (s.empty z k) }
+For-states clocked states states' used ran refused unlisted taken kinds missing s = record { unmade = s.unmade; stood = λ k. kept-or (has_stood k taken) (at_key link_number k states) (at_key link_number k states') (kinds k) (s.stood k); unread = λ k c. s.unread k (connecting-or (at_key link_number k states) (at_key link_number k states') (kinds k) c); clock = s.clock; fresh = s.fresh; since = since-as states states' used used refused (refused_since taken) (omega arith) (λ k low none. missing k none) s.since; counted = s.counted; within = s.within; silent = s.silent; empty = λ z k. missing k (s.empty z k) }
 
 -- the same links are there
 pub missing-as : (states states' : List LinkState) → map link_number states' ≡ map link_number states → (k : ℕ) → at_key link_number k states ≡ None → at_key link_number k states' ≡ None
@@ -253,7 +254,8 @@ For-read clocked states used ran ran' refused unlisted taken link place old new 
       unmade = λ k l. stood-quiet k taken (Read link bytes) refl ∙ s.unmade k l;
       stood = λ k. rw (stood-quiet k taken (Read link bytes) refl) (kept-put k (has_stood k taken) (eqb k link.0) link.0 refl states old new found key lead (s.stood k));
       unread = λ k c. unread-put k (eqb k link.0) refl found key c;
-      since = λ z. s.since z ∙ sym (since-kept taken (Read link bytes) (λ r. refl));
+      since = subst (AreAllBut (IsUnkept (put_at link_number link.0 new states) used) refused) (sym (since-kept taken (Read link bytes) (λ r. refl)))
+          (since-as states (put_at link_number link.0 new states) used used refused (refused_since taken) (omega arith) (λ k low none. at_key-put_none link_number link.0 k new states key none) s.since);
       counted = s.counted ∙ ap length (sym (since-kept taken (Read link bytes) (λ r. refl)));
       within = s.within;
       silent = λ z. absurd (begun found z);
@@ -311,6 +313,10 @@ kind-new taken state used link next number kind unmade k e =
     and-true true = refl
     and-true false = refl
 
+-- a record that is missing is so beside one of a number that was not used
+missing-push : (states : List LinkState) (state : LinkState) (used : ℕ) → link_number state ≡ used + 1 → (k : ℕ) → k ≤ used → at_key link_number k states ≡ None → at_key link_number k (states ++ state ∷ []) ≡ None
+missing-push states state used next k low none = at_key-push_other link_number k state states (λ q. omega arith) ∙ none
+
 pub For-came : (clocked : Option ℕ) (states : List LinkState) (used used' ran ran' : ℕ) (refused : List LinkId) (unlisted : ℕ) (taken : List Happening) (link : LinkId) (nonce : List ℕ) (state : LinkState) → link.0 ≡ used + 1 → used' ≡ used + 1 → state.link ≡ link → state.connecting ≡ is_some state.server → ran' ≡ min (ran + 1) (2 ^ 64 - 1)
     → AgreesWithHappenings clocked states used ran refused unlisted taken → AgreesWithHappenings clocked (states ++ state ∷ []) used' ran' refused unlisted (taken ++ Accepted link nonce ∷ [])
 For-came clocked states used used' ran ran' refused unlisted taken link nonce state next next' key kind count s =
@@ -322,7 +328,8 @@ For-came clocked states used used' ran ran' refused unlisted taken link nonce st
       unmade = λ k l. stood-quiet k taken (Accepted link nonce) refl ∙ s.unmade k (omega arith);
       stood = λ k. rw (stood-quiet k taken (Accepted link nonce) refl) (kept-came (has_stood k taken) states state k (kind-new taken state used link next number kind s.unmade k) (s.stood k));
       unread = λ k c. text-quiet k taken (Accepted link nonce) refl ∙ unread-came states state k (flat_map (bytes_on k) taken ≡ []) (λ e. subst (λ i. flat_map (bytes_on i) taken ≡ []) (sym number ∙ e) none) (s.unread k) c;
-      since = λ z. s.since z ∙ sym (since-kept taken (Accepted link nonce) (λ r. refl));
+      since = subst (AreAllBut (IsUnkept (states ++ state ∷ []) used') refused) (sym (since-kept taken (Accepted link nonce) (λ r. refl)))
+          (since-as states (states ++ state ∷ []) used used' refused (refused_since taken) (omega arith) (missing-push states state used (number ∙ next)) s.since);
       counted = s.counted ∙ ap length (sym (since-kept taken (Accepted link nonce) (λ r. refl)));
       within = let w = s.within in omega arith;
       silent = λ z. absurd (let p = none-before ran ran' 1 count z in let n = p.1 in omega arith);
@@ -337,7 +344,7 @@ For-refused clocked states used used' ran ran' refused unlisted taken link nonce
   unmade = λ k l. stood-quiet k taken (Accepted link nonce) refl ∙ s.unmade k (omega arith);
   stood = λ k. rw (stood-quiet k taken (Accepted link nonce) refl) (s.stood k);
   unread = λ k c. text-quiet k taken (Accepted link nonce) refl ∙ s.unread k c;
-  since = λ z. s.since z ∙ sym (since-kept taken (Accepted link nonce) (λ r. refl));
+  since = subst (AreAllBut (IsUnkept states used') refused) (sym (since-kept taken (Accepted link nonce) (λ r. refl))) (since-as states states used used' refused (refused_since taken) (omega arith) (λ k low none. none) s.since);
   counted = s.counted ∙ ap length (sym (since-kept taken (Accepted link nonce) (λ r. refl)));
   within = let w = s.within in omega arith;
   silent = λ z. absurd (let p = none-before ran ran' 1 count z in let n = p.1 in omega arith);
@@ -381,7 +388,8 @@ For-stands clocked states used ran ran' refused unlisted taken link within' coun
   unmade = λ k l. stood-quiet k taken (Connected link) (above k l (eqb k link.0) refl) ∙ s.unmade k l;
   stood = λ k. rw (at_key-changed link.0 k standing_state keeps-standing states) (stood-more (has_stood k taken) (has_stood k (taken ++ Connected link ∷ [])) (eqb k link.0) (at_key link_number k states) (stood-push k taken (Connected link) ∙ ap (λ t. has_stood k taken || t) (stands-here link k (eqb k link.0) refl)) (s.stood k));
   unread = λ k c. text-quiet k taken (Connected link) refl ∙ s.unread k (connecting-stood (eqb k link.0) (at_key link_number k states) (rw (at_key-changed link.0 k standing_state keeps-standing states) at c)).1;
-  since = λ z. s.since z ∙ sym (since-kept taken (Connected link) (λ r. refl));
+  since = subst (AreAllBut (IsUnkept (changed_at link.0 standing_state states (at_key link_number link.0 states)) used) refused) (sym (since-kept taken (Connected link) (λ r. refl)))
+      (since-as states (changed_at link.0 standing_state states (at_key link_number link.0 states)) used used refused (refused_since taken) (omega arith) (λ k low none. missing-as states (changed_at link.0 standing_state states (at_key link_number link.0 states)) (numbers-changed link.0 standing_state keeps-standing states) k none) s.since);
   counted = s.counted ∙ ap length (sym (since-kept taken (Connected link) (λ r. refl)));
   within = s.within;
   silent = λ z. absurd (let p = none-before ran ran' 1 count z in let n = p.1 in omega arith);
@@ -403,7 +411,7 @@ For-asked clocked states used used' ran refused unlisted taken link state next n
       unmade = λ k l. s.unmade k (omega arith);
       stood = λ k. kept-came (has_stood k taken) states state k (kind-new taken state used link next number kind s.unmade k) (s.stood k);
       unread = λ k c. unread-came states state k (flat_map (bytes_on k) taken ≡ []) (λ e. subst (λ i. flat_map (bytes_on i) taken ≡ []) (sym number ∙ e) none) (s.unread k) c;
-      since = s.since;
+      since = since-as states (states ++ state ∷ []) used used' refused (refused_since taken) (omega arith) (missing-push states state used (number ∙ next)) s.since;
       counted = s.counted;
       within = let w = s.within in omega arith;
       silent = λ z. absurd (omega arith);
@@ -419,7 +427,7 @@ For-dropped clocked states used used' ran refused unlisted taken next begun s = 
   unmade = λ k l. s.unmade k (omega arith);
   stood = s.stood;
   unread = s.unread;
-  since = s.since;
+  since = since-as states states used used' refused (refused_since taken) (omega arith) (λ k low none. none) s.since;
   counted = s.counted;
   within = let w = s.within in omega arith;
   silent = λ z. absurd (omega arith);
@@ -427,28 +435,10 @@ For-dropped clocked states used used' ran refused unlisted taken next begun s = 
 }
 
 -- a connection was refused as it was asked for, and its number is used; it is listed, unless there is
--- no memory for that
-pub For-listed : (clocked : Option ℕ) (states : List LinkState) (used ran : ℕ) (refused refused' : List LinkId) (unlisted unlisted' : ℕ) (taken : List Happening) (link : LinkId) → 1 ≤ ran → length refused + unlisted + 1 ≤ used → (unlisted' ≡ 0 → unlisted ≡ 0) → (unlisted' ≡ 0 → refused' ≡ refused ++ link ∷ []) → length refused' + unlisted' ≡ length refused + unlisted + 1
-    → AgreesWithHappenings clocked states used ran refused unlisted taken → AgreesWithHappenings clocked states used ran refused' unlisted' (taken ++ Refused link ∷ [])
-For-listed clocked states used ran refused refused' unlisted unlisted' taken link begun room stays listed count s =
-    let since : refused_since (taken ++ Refused link ∷ []) ≡ refused_since taken ++ link ∷ [] = refused-push [] taken (Refused link) in
-    record {
-      clock = s.clock ∙ sym (clock-push None taken (Refused link) ∙ timeless-refused link (clock taken));
-      fresh = λ k l. text-quiet k taken (Refused link) refl ∙ s.fresh k l;
-      unmade = λ k l. stood-quiet k taken (Refused link) refl ∙ s.unmade k l;
-      stood = λ k. rw (stood-quiet k taken (Refused link) refl) (s.stood k);
-      unread = λ k c. text-quiet k taken (Refused link) refl ∙ s.unread k c;
-      since = λ z. listed z ∙ ap (λ r. r ++ link ∷ []) (s.since (stays z)) ∙ sym since;
-      counted = rw since (let c = s.counted in let l = length-append (refused_since taken) (link ∷ []) in omega arith);
-      within = omega arith;
-      silent = λ z. absurd (omega arith);
-      empty = λ z. absurd (omega arith);
-    }
-
--- the same where its number is used already
-pub For-named : (clocked : Option ℕ) (states : List LinkState) (used used' ran : ℕ) (refused refused' : List LinkId) (unlisted unlisted' : ℕ) (taken : List Happening) (link : LinkId) → used ≤ used' → length refused' + unlisted' ≤ used' → 1 ≤ ran → (unlisted' ≡ 0 → unlisted ≡ 0) → (unlisted' ≡ 0 → refused' ≡ refused ++ link ∷ []) → length refused' + unlisted' ≡ length refused + unlisted + 1
+-- no memory for that, nor a record of it
+pub For-named : (clocked : Option ℕ) (states : List LinkState) (used used' ran : ℕ) (refused refused' : List LinkId) (unlisted unlisted' : ℕ) (taken : List Happening) (link : LinkId) → used ≤ used' → length refused' + unlisted' ≤ used' → 1 ≤ ran → AreAllBut (IsUnkept states used') refused' (refused_since taken ++ link ∷ []) → length refused' + unlisted' ≡ length refused + unlisted + 1
     → AgreesWithHappenings clocked states used ran refused unlisted taken → AgreesWithHappenings clocked states used' ran refused' unlisted' (taken ++ Refused link ∷ [])
-For-named clocked states used used' ran refused refused' unlisted unlisted' taken link next few begun stays listed count s =
+For-named clocked states used used' ran refused refused' unlisted unlisted' taken link next few begun listed count s =
     let since : refused_since (taken ++ Refused link ∷ []) ≡ refused_since taken ++ link ∷ [] = refused-push [] taken (Refused link) in
     record {
       clock = s.clock ∙ sym (clock-push None taken (Refused link) ∙ timeless-refused link (clock taken));
@@ -456,7 +446,7 @@ For-named clocked states used used' ran refused refused' unlisted unlisted' take
       unmade = λ k l. stood-quiet k taken (Refused link) refl ∙ s.unmade k (omega arith);
       stood = λ k. rw (stood-quiet k taken (Refused link) refl) (s.stood k);
       unread = λ k c. text-quiet k taken (Refused link) refl ∙ s.unread k c;
-      since = λ z. listed z ∙ ap (λ r. r ++ link ∷ []) (s.since (stays z)) ∙ sym since;
+      since = subst (AreAllBut (IsUnkept states used') refused') (sym since) listed;
       counted = rw since (let c = s.counted in let l = length-append (refused_since taken) (link ∷ []) in omega arith);
       within = few;
       silent = λ z. absurd (omega arith);

@@ -1,5 +1,5 @@
 -- What the core does at an arrival.
-use Rattle.std.proofs.Common.{◌≡◌, ℕ, ◌+◌, ◌-◌, ◌^◌, ◌<◌, ◌≤◌, inl, inr, min, max, nat_lt, Bool, true, false, eqb, List, [], ◌∷◌, ◌++◌, length, cond, Option, Some, None, IfSome, Result, Ok, Err, OnOk, is_err, refl, sym, ap, ◌∙◌, arith}
+use Rattle.std.proofs.Common.{◌≡◌, ℕ, ◌+◌, ◌-◌, ◌^◌, ◌<◌, ◌≤◌, inl, inr, min, max, nat_lt, Bool, true, false, eqb, List, [], ◌∷◌, ◌++◌, length, cond, Option, Some, None, Result, Ok, Err, OnOk, is_err, refl, sym, ap, ◌∙◌, arith}
 use Rattle.std.proofs.lemmas.Bool.{false≢true}
 use Rattle.std.proofs.lemmas.Bool.Decides.{nat_tests}
 use Rattle.wc_text.specs.declared.names.LinkId.{LinkId}
@@ -12,74 +12,34 @@ use Rattle.wc_core.specs.State.{State, Act, Stepped}
 use Rattle.wc_core.specs.Step.{step}
 use Rattle.wc_core.specs.Changing.{reach_step}
 use Rattle.wc_options.specs.Options.{OptionsValue}
-use Rattle.wc_board.specs.Connections.{connection_link, is_open, left_if, left_at, new_connection}
+use Rattle.wc_board.specs.Connections.{connection_link, new_connection}
 use Rattle.wc_core.specs.Served.{links_of, state_of, WereTold, Means, refusal, Absent, AdmitsUnlessStarved}
 use Rattle.wc_core.specs.Limits.{client_limit}
 use Rattle.wc_core.specs.State.{Beside, beside}
-use Rattle.wc_servers.specs.Seats.{SeatView, ServersView, seat_link, open_in, used_up, forgotten}
+use Rattle.wc_servers.specs.Seats.{used_up}
 use Rattle.wc_turns.specs.declared.links.LinkState.{LinkState}
 use Rattle.wc_turns.specs.declared.links.Closed.{Closed}
 use Rattle.wc_turns.specs.Contained.{HasStarved}
 use Rattle.wc_turns.specs.Links.{link_number, new_state, with_closed}
 use Rattle.wc_turns.specs.Parties.{has_party, closes_asked, seat_closes, IsCalm}
 use Rattle.wc_turns.specs.Served.{closed_by, leaving_closes}
-use Rattle.wc_turns.proofs.KeyedLemmas.{at_key-key, without-missing, without-put_at, at_key-push_same, absent-missing}
-use Rattle.wc_turns.proofs.PointLemmas.{no-client, no-server}
+use Rattle.wc_turns.proofs.KeyedLemmas.{without-missing, at_key-push_same, absent-missing}
+use Rattle.wc_turns.proofs.PointLemmas.{no-client}
 
-pub starved-more : (old mid new : ℕ) → old ≤ mid → new ≡ min (mid + 1) (2 ^ 64 - 1) → HasStarved old new
-starved-more old mid new rises e = more-by (nat_lt mid (2 ^ 64 - 1)) refl
+pub starved-more : (old new : ℕ) → new ≡ min (old + 1) (2 ^ 64 - 1) → HasStarved old new
+starved-more old new e = more-by (nat_lt old (2 ^ 64 - 1)) refl
   where
-    more-by : (t : Bool) → nat_lt mid (2 ^ 64 - 1) ≡ t → HasStarved old new
-    more-by true f = inl (let below : mid < 2 ^ 64 - 1 = grind (arith, nat_tests) in omega arith)
-    more-by false f = inr (let above : 2 ^ 64 - 1 ≤ mid = grind (arith, nat_tests) in omega arith)
-
-without-left : (k : ℕ) (why : Cause) (connections : List Connection) (o : Option Connection) → at_key connection_link k connections ≡ o → without connection_link k (left_at k why connections o) ≡ without connection_link k connections
-without-left k why connections None e = refl
-without-left k why connections (Some s) e = left-by (is_open s)
-  where
-    left-by : (t : Bool) → without connection_link k (left_if t k why connections s) ≡ without connection_link k connections
-    left-by true = without-put_at connection_link k (record s { leaving = Some why }) connections (at_key-key connection_link k connections s e)
-    left-by false = refl
+    more-by : (t : Bool) → nat_lt old (2 ^ 64 - 1) ≡ t → HasStarved old new
+    more-by true f = inl (let below : old < 2 ^ 64 - 1 = grind (arith, nat_tests) in omega arith)
+    more-by false f = inr (let above : 2 ^ 64 - 1 ≤ old = grind (arith, nat_tests) in omega arith)
 
 pub without-push : {X : Type 0} (key : X → ℕ) (k : ℕ) (y : X) (xs : List X) → key y ≡ k → without key k (xs ++ y ∷ []) ≡ without key k xs
 without-push key k y [] e = let test : eqb (key y) k ≡ true = grind (arith, nat_tests) in rw test refl
 without-push key k y (x ∷ xs) e = grind (arith, nat_tests, without-push key k y xs e)
 
--- a client that came may have been refused
-mid-core : (r : Option Cause) (old mid : CoreView) (link : LinkId) (nonce : List ℕ) → (r ≡ None → mid ≡ record old { connections = old.connections ++ new_connection old.options link nonce ∷ []; servers = used_up link.0 old.servers }) → IfSome r (λ why. mid ≡ record old { starved = mid.starved; servers = used_up link.0 old.servers })
-    → mid ≡ record old { connections = mid.connections; servers = used_up link.0 old.servers; starved = mid.starved }
-mid-core None old mid link nonce admitted refused = rw (admitted refl) refl
-mid-core (Some why) old mid link nonce admitted refused = rw refused refl
-
-mid-connections : (r : Option Cause) (old mid : CoreView) (link : LinkId) (nonce : List ℕ) → (r ≡ None → mid ≡ record old { connections = old.connections ++ new_connection old.options link nonce ∷ []; servers = used_up link.0 old.servers }) → IfSome r (λ why. mid ≡ record old { starved = mid.starved; servers = used_up link.0 old.servers })
-    → without connection_link link.0 mid.connections ≡ without connection_link link.0 old.connections
-mid-connections None old mid link nonce admitted refused = ap (λ (c : CoreView). without connection_link link.0 c.connections) (admitted refl) ∙ without-push connection_link link.0 (new_connection old.options link nonce) old.connections refl
-mid-connections (Some why) old mid link nonce admitted refused = ap (λ (c : CoreView). without connection_link link.0 c.connections) refused
-
--- a core with these clients and servers
-abbrev with_parts : CoreView → List Connection → ServersView → ℕ → CoreView
-with_parts core connections servers starved = record core { connections = connections; servers = servers; starved = starved }
-
--- a client that came is lost and forgotten, where nobody had its link
-pub starve-core : (r : Option Cause) (old mid lost new : CoreView) (link : LinkId) (nonce : List ℕ) (why : Cause) → has_party link.0 old ≡ false
-    → (r ≡ None → mid ≡ record old { connections = old.connections ++ new_connection old.options link nonce ∷ []; servers = used_up link.0 old.servers }) → IfSome r (λ why. mid ≡ record old { starved = mid.starved; servers = used_up link.0 old.servers })
-    → (open_in (at_key seat_link link.0 mid.servers.seats) ≡ None → lost ≡ record mid { connections = left_at link.0 why mid.connections (at_key connection_link link.0 mid.connections); starved = lost.starved })
-    → new ≡ record lost { connections = without connection_link link.0 lost.connections; servers = forgotten link.0 lost.servers }
-    → new ≡ record old { servers = used_up link.0 old.servers; starved = new.starved }
-starve-core r old mid lost new link nonce why nobody admitted refused loses forgets =
-    let came = mid-core r old mid link nonce admitted refused in
-    let no_seat : at_key seat_link link.0 old.servers.seats ≡ None = no-server link.0 old nobody in
-    let no_connection : at_key connection_link link.0 old.connections ≡ None = no-client link.0 old nobody in
-    let servers : mid.servers ≡ used_up link.0 old.servers = ap (λ (c : CoreView). c.servers) came in
-    let left = loses (ap (λ (v : ServersView). open_in (at_key seat_link link.0 v.seats)) servers ∙ ap open_in no_seat) in
-    let connections : without connection_link link.0 lost.connections ≡ old.connections =
-    ap (λ (c : CoreView). without connection_link link.0 c.connections) left ∙ without-left link.0 why mid.connections (at_key connection_link link.0 mid.connections) refl ∙ mid-connections r old mid link nonce admitted refused ∙ without-missing connection_link link.0 old.connections no_connection in
-    let seats : forgotten link.0 lost.servers ≡ used_up link.0 old.servers =
-    ap (forgotten link.0) (ap (λ (c : CoreView). c.servers) left ∙ servers) ∙ ap (λ (xs : List SeatView). record (used_up link.0 old.servers) { seats = xs }) (without-missing seat_link link.0 old.servers.seats no_seat) in
-    let starved : new.starved ≡ lost.starved = ap (λ (c : CoreView). c.starved) forgets in
-    forgets ∙ ap (λ (xs : List Connection). with_parts lost xs (forgotten link.0 lost.servers) lost.starved) connections ∙ ap (λ (v : ServersView). with_parts lost old.connections v lost.starved) seats
-    ∙ ap (λ (c : CoreView). with_parts c old.connections (used_up link.0 old.servers) lost.starved) left ∙ ap (λ (n : ℕ). with_parts mid old.connections (used_up link.0 old.servers) n) (sym starved)
-    ∙ ap (λ (c : CoreView). with_parts c old.connections (used_up link.0 old.servers) new.starved) came
+-- what is counted of it is what the core has then
+pub refused-as : (old new : CoreView) (link starved : ℕ) → new ≡ record old { servers = used_up link old.servers; starved = starved } → new ≡ record old { servers = used_up link old.servers; starved = new.starved }
+refused-as old new link starved e = e ∙ ap (λ (n : ℕ). record old { servers = used_up link old.servers; starved = n }) (sym (ap (λ (c : CoreView). c.starved) e))
 
 pub calm-as : (old new : CoreView) (link : ℕ) → new ≡ record old { servers = used_up link old.servers; starved = new.starved } → IsCalm old → IsCalm new
 calm-as old new link e calm = record { parted = ap closes_asked e ∙ calm.parted; asked = ap (λ c. c.servers.wanted) e ∙ calm.asked }

@@ -25,8 +25,8 @@ use Rattle.wc_turns.specs.declared.links.LinkState.{LinkState}
 use Rattle.wc_turns.specs.declared.links.Closed.{Closed}
 use Rattle.wc_turns.specs.declared.headless.Headless.{Headless}
 use Rattle.wc_turns.specs.Contained.{HasStarved}
-use Rattle.wc_turns.specs.Events.{events_from}
-use Rattle.wc_turns.specs.Links.{link_number, is_undrained, is_blocked, is_there, is_connecting, IsStanding, new_state}
+use Rattle.wc_turns.specs.Events.{events_from, refused_since}
+use Rattle.wc_turns.specs.Links.{IsUnkept, link_number, is_undrained, is_blocked, is_there, is_connecting, IsStanding, new_state}
 use Rattle.wc_turns.specs.Parties.{has_party, party_count, connect_of, asks_of, is_refused, seat_closes, closes_asked}
 use Rattle.wc_turns.specs.Parts.{leaving_of, AsksWanted, SameParty}
 use Rattle.wc_turns.specs.Served.{closed_by, leaving_closes}
@@ -43,6 +43,7 @@ use Rattle.wc_turns.proofs.ComeLemmas.{came-flag}
 use Rattle.wc_turns.proofs.RunLemmas.{ReachesEvents-none}
 use Rattle.wc_turns.proofs.PointLemmas.{AreAlone, MomentAdvances-none, OnOneSide-none, next-above, spoils-more}
 use Rattle.wc_turns.proofs.AgreesLemmas.{For-asked, For-named}
+use Rattle.wc_turns.proofs.ListedLemmas.{but-push}
 use Rattle.wc_turns.proofs.CauseLemmas.{KeepsSides, reasons-same, Onward-none, uncome-as, among-self}
 use Rattle.wc_turns.proofs.StepLemmas.{no-arrivals}
 use Rattle.wc_turns.proofs.TakesLemmas.{leaving-drawn}
@@ -93,6 +94,10 @@ not-refused k xs ys none other = refused-append k xs ys ∙ ap (λ t. t || is_re
     off : (t : Bool) → is_refused k ys ≡ t → t ≡ false
     off true e = absurd (other e)
     off false e = refl
+
+within-of : (refused : Bool) (link : LinkId) (listed : List LinkId) → (listed ≡ refused_by refused link) ⊎ (listed ≡ []) → (k : ℕ) → is_refused k listed ≡ true → is_refused k (refused_by refused link) ≡ true
+within-of refused link listed (inl e) k h = sym (ap (is_refused k) e) ∙ h
+within-of refused link listed (inr e) k h = absurd (false≢true (sym (ap (is_refused k) e) ∙ h))
 
 -- ---- it was refused, and is kept
 
@@ -154,7 +159,7 @@ wanted-next x a wanted others first s = (subst (AreNext x.used) first s.among.ne
 
 -- the state stays where connections are asked for
 pub wanted-kept : (x y : CoreView) (others : List Wanted) → y ≡ with_wanted others x → KeepsState x y
-wanted-kept x y others e = let P : CoreView → Type 0 = λ c. KeepsState x c in subst P (sym e) (record { state = λ told. refl; pending = refl; starved = refl; quits = refl })
+wanted-kept x y others e = let P : CoreView → Type 0 = λ c. KeepsState x c in subst P (sym e) (record { state = λ told. refl; nobody = λ k e. e; pending = refl; starved = refl; quits = refl })
 
 -- a connection was refused, and it is listed
 pub LoopStep-unmade : (x x' y : Headless) (a b : Seen) (wanted : Wanted) (others : List Wanted) → x.core.servers.wanted ≡ wanted ∷ others → x' ≡ record x { core = with_wanted others x.core } → TakesLink x' y wanted true → AgreesWithSockets x a → AskingCall a b (Refused wanted.link ∷ []) (wanted.address ∷ [])
@@ -217,7 +222,8 @@ LoopStep-unmade x x' y a b wanted others first same takes s' call used asked sen
         let kept = For-asked x.clock x.links.opened.items x.used y.used x.ran x.refused.items x.unlisted a.taken wanted.link (new_state wanted.link (Some wanted.server) true) next count refl refl one s in
         rw (takes.clock ∙ ap (λ (z : Headless). z.clock) same, opened, ran, refused, unlisted)
         (For-named x.clock (x.links.opened.items ++ new_state wanted.link (Some wanted.server) true ∷ []) y.used y.used x.ran x.refused.items (x.refused.items ++ wanted.link ∷ []) x.unlisted x.unlisted a.taken wanted.link (omega arith)
-        (let u = count in let w = s.within in let l = length-append x.refused.items (wanted.link ∷ []) in omega arith) one (λ z. z) (λ z. refl) (let l = length-append x.refused.items (wanted.link ∷ []) in omega arith) kept)
+        (let u = count in let w = s.within in let l = length-append x.refused.items (wanted.link ∷ []) in omega arith)
+        one (but-push (IsUnkept (x.links.opened.items ++ new_state wanted.link (Some wanted.server) true ∷ []) y.used) x.refused.items (refused_since a.taken) wanted.link kept.since) (let l = length-append x.refused.items (wanted.link ∷ []) in omega arith) kept)
 
     hears : (history : List Heard) → happenings history ≡ a.taken → AgreesWithHappenings x.clock x.links.opened.items x.used x.ran x.refused.items x.unlisted a.taken → AgreesWithHeard x.links.opened.items x.used x.ran a.taken history
         → AgreesWithHeard y.links.opened.items y.used y.ran (a.taken ++ Refused wanted.link ∷ []) (history ++ Happened (Refused wanted.link) ∷ [])
@@ -416,7 +422,7 @@ LoopStep-dropped refused given heard x x' y a b wanted others first same drops s
     LoopStep-ask true 0 0 x y a b given heard (wanted.address ∷ []) [] spells call (λ below. (let e = drops.turns ∙ ap (λ (z : Headless). z.turns) same in omega arith)) (omega arith) (omega arith)
     (let r = d.loses.keeps.rises in let e = ap (λ (c : CoreView). c.starved) d.core in omega arith) (λ t s still below. no-starving x.core.starved y.core.starved d.starved still below) (λ s. reasons) (λ s. drops-sides (with_wanted others x.core) y.core wanted.link.0 d) (λ s. Onward-none x.core y.core given (let e = ap (λ (c : CoreView). c.servers.used) d.core in let u = d.seats.used in omega arith) (λ k. no-arrivals k given gives))
     (λ over. quits ∙ over) (λ t s. saves)
-    (λ s. rw (opened, drops.used, drops.listening ∙ ap (λ (z : Headless). z.listening) same, drops.lists ∙ ap (λ (z : Headless). z.refused.items ++ drops.listed) same) (among-dropped x.links.opened.items x.core y.core x.used x.listening refused x.refused.items drops.listed a b wanted others first d drops.within used there undrained blocked listening s))
+    (λ s. rw (opened, drops.used, drops.listening ∙ ap (λ (z : Headless). z.listening) same, drops.lists ∙ ap (λ (z : Headless). z.refused.items ++ drops.listed) same) (among-dropped x.links.opened.items x.core y.core x.used x.listening refused x.refused.items drops.listed a b wanted others first d (within-of refused wanted.link drops.listed drops.fits) used there undrained blocked listening s))
     (λ t s on. rw (drops.clock ∙ ap (λ (z : Headless). z.clock) same, opened, ran) (told t (s.told (call.told t) (sym quits ∙ on))))
     (λ t s on. rw (opened, ran) (hears s.history (s.spells (call.told t)) (s.hears (call.told t) (sym quits ∙ on))))
     (λ t s k e. socket-stays k a.taken given (s.sockets (call.told t) k (rw opened at e)))
@@ -426,7 +432,7 @@ LoopStep-dropped refused given heard x x' y a b wanted others first same drops s
       reaches = rw (ran, nothing s.history) (ReachesEvents-none x.core.quits y.core.quits x.ran);
       rises = (let r = d.loses.keeps.rises in let e = ap (λ (c : CoreView). c.starved) d.core in omega arith);
       verdicts = subst (Stay x.core.verdicts) (sym (ap (λ (c : CoreView). c.verdicts) d.core)) d.loses.keeps.verdicts;
-      goes = Goes-both [] [] x.core (with_wanted others x.core) y.core (Goes-kept x.core (with_wanted others x.core) (wanted-kept x.core (with_wanted others x.core) others refl)) (Goes-dropped wanted.link.0 (with_wanted others x.core) y.core (record { lost = d.lost; loses = d.loses.whole; gone = d.loses.gone; forgets = d.core }));
+      goes = Goes-both [] [] x.core (with_wanted others x.core) y.core (Goes-kept x.core (with_wanted others x.core) (wanted-kept x.core (with_wanted others x.core) others refl)) (Goes-dropped wanted.link.0 (with_wanted others x.core) y.core (record { there = wanted-party x a wanted others first s wanted.link.0 (let q : eqb wanted.link.0 wanted.link.0 ≡ true = grind (arith, nat_tests) in q); lost = d.lost; loses = d.loses.whole; gone = d.loses.gone; forgets = d.core }));
       advances = λ still below rows were agrees. no-starving x.core.starved y.core.starved d.starved still below;
       silent = λ over. rw spells gives;
       ends = ends s.history;

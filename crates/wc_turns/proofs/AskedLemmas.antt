@@ -10,9 +10,9 @@ use Rattle.wc_outside.specs.Seen.{Seen}
 use Rattle.wc_turns.specs.Parts.{AsksWanted, leaving_of, ClosesLeaving, Settles}
 use Rattle.wc_turns.proofs.SourceLemmas.{NothingBecameReady-refl, TakesNothing-refl, NothingBecameReady-trans, TakesNothing-trans}
 use Rattle.wc_turns.proofs.ContainedLemmas.{KeepsLinks-refl, KeepsLinks-trans}
-use Rattle.std.proofs.Common.{IsTrue, IsSome, append-nil, ◌≡◌, ◌∙◌, ◌⊎◌, ◌≢◌, ◌++◌, ◌∷◌, ◌+◌, ◌^◌, ◌≤◌, ◌<◌, ◌&&◌, ◌||◌, inl, inr, [], refl, sym, ap, Bool, true, false, ℕ, List, Option, None, Some, not, eqb, length, arith, is_some, map}
+use Rattle.std.proofs.Common.{IsTrue, IsSome, append-nil, ◌≡◌, ◌∙◌, ◌⊎◌, ◌≢◌, ◌++◌, ◌∷◌, ◌+◌, ◌^◌, ◌≤◌, ◌<◌, ◌&&◌, ◌||◌, inl, inr, [], refl, sym, ap, subst, Bool, true, false, ℕ, List, Option, None, Some, not, eqb, length, arith, is_some, map}
 use Rattle.wc_servers.specs.Seats.{SeatView, seat_link, unsent_at as server_unsent_at}
-use Rattle.wc_turns.specs.Parties.{has_party, party_count, closes_asked, IsCalm, is_refused}
+use Rattle.wc_turns.specs.Parties.{has_party, party_count, closes_asked, IsCalm}
 use Rattle.wc_core.specs.Served.{or_else}
 use Rattle.wc_board.specs.Connections.{leaving_on, unsent_at, connection_link}
 use Rattle.wc_turns.proofs.SeatLemmas.{seats-still}
@@ -26,7 +26,10 @@ use Rattle.wc_turns.specs.Steps.{DropsLink}
 use Rattle.wc_turns.specs.Turns.{AgreesWithHappenings, AgreesWithSockets}
 use Rattle.wc_outside.specs.declared.happening.Happening.{Happening}
 use Rattle.wc_servers.specs.declared.wanted.Wanted.{Wanted}
+use Rattle.wc_turns.specs.Events.{refused_since}
+use Rattle.wc_turns.specs.Links.{link_number, IsUnkept, AreAllBut}
 use Rattle.wc_turns.proofs.AgreesLemmas.{For-dropped, For-named}
+use Rattle.wc_turns.proofs.ListedLemmas.{since-as, but-push, but-passed}
 use Rattle.wc_outside.specs.declared.happening.Happening.TheVariants.{Refused}
 use Rattle.std.proofs.lemmas.List.{length-append}
 use Rattle.std.proofs.lemmas.Bool.{false≢true}
@@ -115,15 +118,15 @@ kept-flag k link t f none e = flag-by (eqb k link) refl
 
 -- ---- what was taken where a connection has no record
 
-none-listed : (listed : List LinkId) → ((k : ℕ) → is_refused k listed ≡ true → is_refused k [] ≡ true) → listed ≡ []
-none-listed [] h = refl
-none-listed (l ∷ ls) h = let here : eqb l.0 l.0 ≡ true = grind (arith, nat_tests) in absurd (false≢true (h l.0 (ap (λ t. t || is_refused l.0 ls) here)))
+none-listed : (listed : List LinkId) → (listed ≡ []) ⊎ (listed ≡ []) → listed ≡ []
+none-listed listed (inl e) = e
+none-listed listed (inr e) = e
 
 -- it was begun
 pub told-begun : (x x' y : Headless) (taken : List Happening) (wanted : Wanted) → DropsLink x' y wanted false → x'.used ≡ x.used → x'.refused ≡ x.refused → x'.unlisted ≡ x.unlisted → wanted.link.0 ≡ x.used + 1 → 1 ≤ x.ran → x.used < 2 ^ 62
     → AgreesWithHappenings x.clock x.links.opened.items x.used x.ran x.refused.items x.unlisted taken → AgreesWithHappenings x.clock x.links.opened.items y.used x.ran y.refused.items y.unlisted (taken ++ [])
 told-begun x x' y taken wanted drops used refused unlisted next begun low s =
-    let none : drops.listed ≡ [] = none-listed drops.listed drops.within in
+    let none : drops.listed ≡ [] = none-listed drops.listed drops.fits in
     let lists : y.refused.items ≡ x.refused.items = drops.lists ∙ ap (λ ls. x'.refused.items ++ ls) none ∙ append-nil _ ∙ ap (λ v. v.items) refused in
     let few = s.within in
     let size = ap length none in
@@ -131,9 +134,9 @@ told-begun x x' y taken wanted drops used refused unlisted next begun low s =
     rw (append-nil taken, lists, count) (For-dropped x.clock x.links.opened.items x.used y.used x.ran x.refused.items x.unlisted taken (drops.used ∙ next) begun s)
 
 -- it was refused
-pub told-refused : (x x' y : Headless) (taken : List Happening) (wanted : Wanted) → DropsLink x' y wanted true → x'.used ≡ x.used → x'.refused ≡ x.refused → x'.unlisted ≡ x.unlisted → wanted.link.0 ≡ x.used + 1 → 1 ≤ x.ran → x.used < 2 ^ 62
+pub told-refused : (x x' y : Headless) (taken : List Happening) (wanted : Wanted) → DropsLink x' y wanted true → x'.used ≡ x.used → x'.refused ≡ x.refused → x'.unlisted ≡ x.unlisted → wanted.link.0 ≡ x.used + 1 → at_key link_number wanted.link.0 x.links.opened.items ≡ None → 1 ≤ x.ran → x.used < 2 ^ 62
     → AgreesWithHappenings x.clock x.links.opened.items x.used x.ran x.refused.items x.unlisted taken → AgreesWithHappenings x.clock x.links.opened.items y.used x.ran y.refused.items y.unlisted (taken ++ Refused wanted.link ∷ [])
-told-refused x x' y taken wanted drops used refused unlisted next begun low s =
+told-refused x x' y taken wanted drops used refused unlisted next missing begun low s =
     let few = s.within in
     let size = ap length drops.lists in
     let more = length-append x'.refused.items drops.listed in
@@ -141,8 +144,20 @@ told-refused x x' y taken wanted drops used refused unlisted next begun low s =
     let e = drops.counted (let q = unlisted in omega arith) in
     let now = drops.used in
     let count : length y.refused.items + y.unlisted ≡ length x.refused.items + x.unlisted + 1 = omega arith in
-    For-named x.clock x.links.opened.items x.used y.used x.ran x.refused.items y.refused.items x.unlisted y.unlisted taken wanted.link (omega arith) (omega arith) begun
-    (λ z. (let q = (drops.all z).0 in omega arith)) (λ z. drops.lists ∙ ap (λ v. v.items ++ drops.listed) refused ∙ ap (λ ls. x.refused.items ++ ls) (drops.all z).1) count s
+    For-named x.clock x.links.opened.items x.used y.used x.ran x.refused.items y.refused.items x.unlisted y.unlisted taken wanted.link (omega arith) (omega arith) begun (since drops.fits) count s
+  where
+    here : wanted.link.0 ≤ y.used
+    here = let now = drops.used in omega arith
+
+    before : AreAllBut (IsUnkept x.links.opened.items y.used) x.refused.items (refused_since taken)
+    before = since-as x.links.opened.items x.links.opened.items x.used y.used x.refused.items (refused_since taken) (let now = drops.used in omega arith) (λ k below none. none) s.since
+
+    lists : y.refused.items ≡ x.refused.items ++ drops.listed
+    lists = drops.lists ∙ ap (λ v. v.items ++ drops.listed) refused
+
+    since : (drops.listed ≡ wanted.link ∷ []) ⊎ (drops.listed ≡ []) → AreAllBut (IsUnkept x.links.opened.items y.used) y.refused.items (refused_since taken ++ wanted.link ∷ [])
+    since (inl e) = subst (λ ls. AreAllBut (IsUnkept x.links.opened.items y.used) ls (refused_since taken ++ wanted.link ∷ [])) (sym (lists ∙ ap (λ ls. x.refused.items ++ ls) e)) (but-push (IsUnkept x.links.opened.items y.used) x.refused.items (refused_since taken) wanted.link before)
+    since (inr e) = subst (λ ls. AreAllBut (IsUnkept x.links.opened.items y.used) ls (refused_since taken ++ wanted.link ∷ [])) (sym (lists ∙ ap (λ ls. x.refused.items ++ ls) e ∙ append-nil x.refused.items)) (but-passed (IsUnkept x.links.opened.items y.used) x.refused.items (refused_since taken) wanted.link (here, missing) before)
 
 -- what was heard, where it was begun
 pub hears-begun : (x x' y : Headless) (taken : List Happening) (history : List Heard) (wanted : Wanted) → DropsLink x' y wanted false → wanted.link.0 ≡ x.used + 1

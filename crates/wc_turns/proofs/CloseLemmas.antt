@@ -122,7 +122,7 @@ LoopStep-sent x a b link count bytes u call sent choked asked same =
     (λ k plain gone. gone-nothing k link count x.core bytes (a.sent k) (b.sent k) u (gone-nobody k x.used x.core gone) (sent t k))
     (gone-sides link count x.core o refl)
     (ap (λ xs. xs ++ asks_of core.servers.wanted) (asked t) ∙ ap (λ ws. a.asked ++ asks_of ws) wanted))
-    (λ s. Goes-kept x.core core (record { state = λ told. gone-state link count x.core o refl told; pending = gone-pending link count x.core o; starved = gone-starved link count x.core o; quits = gone-quits link count x.core o }))
+    (λ s. Goes-kept x.core core (record { state = λ told. gone-state link count x.core o refl told; nobody = λ k e. gone-has link count k x.core o refl ∙ e; pending = gone-pending link count x.core o; starved = gone-starved link count x.core o; quits = gone-quits link count x.core o }))
 
 -- where nothing is sent, whatever link is asked for
 pub nothing_sent : (sent : List ℕ) (b : Bool) → sent ++ cond b [] [] ≡ sent
@@ -278,6 +278,7 @@ LoopStep-close x y d a b leaving one wanted call sent choked asked used there un
       verdicts = verdicts-same x.core.verdicts y.core.verdicts (ap (λ (c : CoreView). c.verdicts) one.core);
       goes = Goes-kept x.core y.core (record {
         state = λ told. ap (λ c. state_of c told) one.core ∙ forgot-state x.core d leaving s.among.once s.among.seats s.among.alone told;
+        nobody = λ k e. ap (has_party k) one.core ∙ forgot-party k d.link.0 x.core ∙ ap (λ t. t && not (eqb k d.link.0)) e;
         pending = ap (λ (c : CoreView). c.pending) one.core;
         starved = ap (λ (c : CoreView). c.starved) one.core;
         quits = quits;

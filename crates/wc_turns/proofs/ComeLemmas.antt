@@ -30,9 +30,12 @@ use Rattle.wc_turns.specs.Links.{link_number, is_undrained, is_blocked, is_there
 use Rattle.wc_turns.specs.Parties.{has_party, unsent_on, owed_to, asks_of, asks_in, is_refused, closes_asked, IsCalm}
 use Rattle.wc_turns.specs.Run.{closings}
 use Rattle.wc_turns.specs.Served.{closed_by}
-use Rattle.wc_turns.specs.Steps.{LinkComes, TakesArrival, RefusesArrival, IsRefusal}
+use Rattle.wc_turns.specs.Steps.{LinkComes, TakesArrival, RefusesArrival, refused_for}
+use Rattle.wc_turns.specs.Goes.{IsRefusal}
+use Rattle.wc_core.specs.Contained.{starved_by}
 use Rattle.wc_turns.specs.Turns.{AgreesOnLinks, AgreesWithSockets, Moment, moment, point, MomentAdvances, OnOneSide, IsClients, IsServers, CausedBy, HasCause, closed_so_far, LoopStep}
 use Rattle.wc_turns.specs.Heard.{Happened}
+use Rattle.wc_turns.proofs.ArriveLemmas.{refused-as}
 use Rattle.wc_turns.proofs.HeardLemmas.{socket-stays}
 use Rattle.wc_turns.proofs.HeardAgrees.{Hears-came, Hears-refused, socket-came}
 use Rattle.wc_turns.proofs.KeyedLemmas.{or-false, or-true, is_some-push, at_key-push_same, at_key-push_other, absent-missing, distinct-push, map-push}
@@ -214,7 +217,7 @@ LoopStep-came x y a b link nonce comes admits going calm call next used limit se
     sides s = rw admits.core (came-sides x.core link nonce (beyond s))
 
     closes : AgreesWithSockets x a → closed_so_far y ≡ closed_so_far x
-    closes s = ap (λ xs. xs ++ closes_asked y.core) admits.closed ∙ ap (λ cs. x.links.closed.items ++ cs) ((comes.calm (nobody s) calm).parted ∙ sym calm.parted)
+    closes s = ap (λ xs. xs ++ closes_asked y.core) admits.closed ∙ ap (λ cs. x.links.closed.items ++ cs) ((comes.calm calm).parted ∙ sym calm.parted)
 
     advances : IsTrue b.tells → AgreesWithSockets x a → y.core.starved ≡ x.core.starved → x.core.starved < 2 ^ 64 - 1 → (rows : Beside) → WereTold x.core rows → MomentAdvances rows (moment x a) (moment y b) [] (Arrives link.0 nonce ∷ [])
     advances t s same below rows were =
@@ -236,6 +239,10 @@ refused-caused link nonce why a b (inr e) h = rw e tt
 refused-causes : (link : LinkId) (nonce : List ℕ) (o : Option Cause) (x y : Headless) (a b : Seen) → IfSome o IsRefusal → (IsTrue b.tells → b.taken ≡ a.taken ++ Accepted link nonce ∷ []) → All (HasCause x y a b) (closed_by link o)
 refused-causes link nonce None x y a b p h = All-nil (HasCause x y a b)
 refused-causes link nonce (Some why) x y a b p h = All-cons (HasCause x y a b) (record { link = link; cause = why }) [] (inl (refused-caused link nonce why a b p h)) (All-nil (HasCause x y a b))
+
+refused-fits : (o : Option Cause) → IfSome o IsRefusal → IsRefusal (refused_for o)
+refused-fits None h = inr refl
+refused-fits (Some why) h = h
 
 refusal-owed : (k link : ℕ) (o : Option Cause) → owed_to k (refusal link o ++ []) ≡ []
 refusal-owed k link None = refl
@@ -362,7 +369,7 @@ LoopStep-refused x y a b link nonce comes r going calm call next used limit sent
       reaches = ReachesEvents-all x.core.quits y.core.quits x.ran y.ran (Arrives link.0 nonce ∷ []) going (λ fits. comes.ran);
       rises = r.rises;
       verdicts = verdicts-same x.core.verdicts y.core.verdicts (ap (λ (c : CoreView). c.verdicts) core);
-      goes = Goes-one (Arrives link.0 nonce) x.core y.core (inr core);
+      goes = Goes-one (Arrives link.0 nonce) x.core y.core (inr (record { cause = refused_for r.cause; fits = refused-fits r.cause r.fits; core = r.core; closes = r.closes nobody }));
       advances = λ same below rows were agrees. advances t same below rows were;
       silent = λ over. absurd (false≢true (sym going ∙ over));
       ends = (tt, tt);
@@ -385,10 +392,10 @@ LoopStep-refused x y a b link nonce comes r going calm call next used limit sent
     nobody = nobody-new x.links.opened.items x.core x.used x.listening x.refused.items a s'.among calm.asked link.0 above
 
     core : y.core ≡ refused_core x.core link.0 y.core.starved
-    core = r.core nobody
+    core = refused-as x.core y.core link.0 (starved_by (refused_for r.cause) x.core.starved) r.core
 
     closes : closed_so_far y ≡ closed_so_far x ++ closed_by link r.cause
-    closes = ap (λ cs. y.links.closed.items ++ cs) ((comes.calm nobody calm).parted) ∙ append-nil _ ∙ r.closed absent ∙ ap (λ xs. xs ++ closed_by link r.cause) (sym (append-nil x.links.closed.items) ∙ ap (λ cs. x.links.closed.items ++ cs) (sym calm.parted))
+    closes = ap (λ cs. y.links.closed.items ++ cs) ((comes.calm calm).parted) ∙ append-nil _ ∙ r.closed absent ∙ ap (λ xs. xs ++ closed_by link r.cause) (sym (append-nil x.links.closed.items) ∙ ap (λ cs. x.links.closed.items ++ cs) (sym calm.parted))
 
     advances : IsTrue b.tells → y.core.starved ≡ x.core.starved → x.core.starved < 2 ^ 64 - 1 → (rows : Beside) → WereTold x.core rows → MomentAdvances rows (moment x a) (moment y b) (closed_by link r.cause) (Arrives link.0 nonce ∷ [])
     advances t same below rows were =

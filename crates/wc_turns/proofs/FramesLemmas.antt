@@ -23,6 +23,7 @@ use Rattle.wc_turns.specs.declared.sockets.WsThen.TheVariants.{GoOn, Closed as C
 use Rattle.wc_turns.specs.declared.tail.Tail.{Tail}
 use Rattle.wc_turns.specs.Events.{read_events, end_events}
 use Rattle.wc_turns.specs.Lines.{rest}
+use Rattle.wc_turns.specs.Parties.{has_party}
 use Rattle.wc_turns.specs.Served.{MayTake, IsOfLine, LeavesFor, LeavesAtLine, IsOfRead, LeavesForRead, LeavesAtRead}
 use Rattle.wc_turns.specs.Sockets.{cause_of, IsSocketCause, end_for, IsSocketEnd, FedThen, then_of, ServesSocket, ServesPiece}
 use Rattle.wc_turns.specs.Steps.{LosesLink}
@@ -34,7 +35,7 @@ use Rattle.wc_turns.proofs.LossLemmas.{MayRun-starved}
 use Rattle.wc_turns.proofs.RunLemmas.{ReachesEvents-all, ReachesEvents-none, ReachesEvents-trans}
 use Rattle.wc_turns.proofs.ServedLemmas.{MayRun-none, MayRun-one, MayRun-trans, LeavesAtLine-refl, LeavesAtLine-trans}
 use Rattle.wc_turns.specs.Goes.{TakesEvent, LosesWhole}
-use Rattle.wc_turns.proofs.GoesLemmas.{Goes-lost}
+use Rattle.wc_turns.proofs.GoesLemmas.{Goes-starved}
 
 -- ---- who leaves at a read
 
@@ -155,23 +156,23 @@ broken-memory : BadSocket ≡ NoMemory → ⊥
 broken-memory q = cc
 
 -- the event at which a WebSocket link is closed
-pub MayTake-end : (why : Cause) (link : ℕ) (a b : CoreView) (ran ran' : ℕ) → IsSocketCause why → a.quits ≡ false → (why ≡ NoMemory → ran' ≡ ran) → (why ≢ NoMemory → ran' ≡ min (ran + 1) (2 ^ 64 - 1))
+pub MayTake-end : (why : Cause) (link : ℕ) (a b : CoreView) (ran ran' : ℕ) → IsSocketCause why → has_party link a ≡ true → a.quits ≡ false → (why ≡ NoMemory → ran' ≡ ran) → (why ≢ NoMemory → ran' ≡ min (ran + 1) (2 ^ 64 - 1))
     → Does a b (λ state. link_loss_step state link why (at_key client_link link state.clients)) → (why ≡ NoMemory → a.starved < 2 ^ 64 - 1 → a.starved < b.starved) → LosesWhole link why a b → MayTake a b ran ran' (end_events link (end_for why))
-MayTake-end Ended link a b ran ran' is going none one does counted whole = MayTake-one a b ran ran' (Ends link) going (one ended-memory) does whole
-MayTake-end BadSocket link a b ran ran' is going none one does counted whole = MayTake-one a b ran ran' (Breaks link) going (one broken-memory) does whole
-MayTake-end NoMemory link a b ran ran' is going none one does counted whole =
+MayTake-end Ended link a b ran ran' is there going none one does counted whole = MayTake-one a b ran ran' (Ends link) going (one ended-memory) does whole
+MayTake-end BadSocket link a b ran ran' is there going none one does counted whole = MayTake-one a b ran ran' (Breaks link) going (one broken-memory) does whole
+MayTake-end NoMemory link a b ran ran' is there going none one does counted whole =
     let keeps = (does (plain_beside a)).keeps in
     record {
       events = [];
       reaches = rw (none refl) (ReachesEvents-none a.quits b.quits ran);
-      takes = MayRun-starved a b [] keeps (starved-counted a.starved a.starved b.starved (omega arith) keeps.rises (counted refl)) (Goes-lost link NoMemory a b (inr refl) whole);
+      takes = MayRun-starved a b [] keeps (starved-counted a.starved a.starved b.starved (omega arith) keeps.rises (counted refl)) (Goes-starved link a b (record { there = there; loses = whole }));
     }
-MayTake-end Failed link a b ran ran' is going none one does counted whole = absurd is
-MayTake-end LoginFailed link a b ran ran' is going none one does counted whole = absurd is
-MayTake-end Surplus link a b ran ran' is going none one does counted whole = absurd is
-MayTake-end Quit link a b ran ran' is going none one does counted whole = absurd is
-MayTake-end Disconnected link a b ran ran' is going none one does counted whole = absurd is
-MayTake-end NickTaken link a b ran ran' is going none one does counted whole = absurd is
+MayTake-end Failed link a b ran ran' is there going none one does counted whole = absurd is
+MayTake-end LoginFailed link a b ran ran' is there going none one does counted whole = absurd is
+MayTake-end Surplus link a b ran ran' is there going none one does counted whole = absurd is
+MayTake-end Quit link a b ran ran' is there going none one does counted whole = absurd is
+MayTake-end Disconnected link a b ran ran' is there going none one does counted whole = absurd is
+MayTake-end NickTaken link a b ran ran' is there going none one does counted whole = absurd is
 
 -- where no event was reached after it, none was before
 pub idle-end : (why : Cause) (ran ran' : ℕ) → IsSocketCause why → (why ≡ NoMemory → ran' ≡ ran) → (why ≢ NoMemory → ran' ≡ min (ran + 1) (2 ^ 64 - 1)) → ran' ≡ 0 → ran ≡ 0

@@ -1,9 +1,8 @@
 -- What the core goes through, put together.
 use Rattle.std.proofs.Common.{◌≡◌, ℕ, List, [], ◌∷◌, ◌++◌, inl, inr, Option, Some, None, refl, ap, subst}
-use Rattle.wc_text.specs.declared.names.Cause.{Cause}
 use Rattle.wc_core.specs.CoreView.{CoreView}
 use Rattle.wc_core.specs.Events.{Event}
-use Rattle.wc_turns.specs.Goes.{Leg, GoesThrough, with_event, events_by, TakesEvent, Besides, Loses, Drops, Keeps, IsUnheard, LosesWhole, DropsWhole, KeepsState, AreTaken, AreEnds, Goes}
+use Rattle.wc_turns.specs.Goes.{Leg, GoesThrough, with_event, events_by, TakesEvent, Besides, Starves, Drops, Keeps, StarvesWhole, DropsWhole, KeepsState, AreTaken, AreEnds, Goes}
 use Rattle.std.proofs.lemmas.List.{append-nil}
 
 -- ---- which events are taken
@@ -62,8 +61,8 @@ Goes-one event a b takes = record { legs = record { event = Some event; core = b
 goes-besides : (a b : CoreView) → Besides a b → Goes [] a b
 goes-besides a b does = record { legs = record { event = None; core = b } ∷ []; through = (does, refl); taken = tt }
 
-pub Goes-lost : (link : ℕ) (cause : Cause) (a b : CoreView) → IsUnheard cause → LosesWhole link cause a b → Goes [] a b
-Goes-lost link cause a b is loses = goes-besides a b (Loses link cause is loses)
+pub Goes-starved : (link : ℕ) (a b : CoreView) → StarvesWhole link a b → Goes [] a b
+Goes-starved link a b starves = goes-besides a b (Starves link starves)
 
 pub Goes-dropped : (link : ℕ) (a b : CoreView) → DropsWhole link a b → Goes [] a b
 Goes-dropped link a b drops = goes-besides a b (Drops link drops)

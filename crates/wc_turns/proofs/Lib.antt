@@ -23,6 +23,7 @@ pub mod KeyedLemmas
 pub mod LeastLemmas
 pub mod LineLemmas
 pub mod LinkLemmas
+pub mod ListedLemmas
 pub mod LossLemmas
 pub mod PartLemmas
 pub mod PartyLemmas
@@ -45,5 +46,6 @@ pub mod StepLemmas
 pub mod TakesLemmas
 pub mod TurnLemmas
 pub mod UnputLemmas
+pub mod VacantLemmas
 pub mod WaitLemmas
 pub mod WakeLemmas

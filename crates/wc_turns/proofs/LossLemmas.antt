@@ -1,5 +1,5 @@
 -- Connections that were refused are lost as a turn begins.
-use Rattle.std.proofs.Common.{◌≡◌, ◌≢◌, ℕ, zero, suc, ◌+◌, ◌-◌, ◌^◌, ◌⊎◌, inl, inr, min, Bool, true, false, cond, eqb, ◌||◌, List, [], ◌∷◌, ◌++◌, map, length, Option, Some, None, is_some, refl, sym, ap, ◌∙◌, subst, arith}
+use Rattle.std.proofs.Common.{◌≡◌, ◌≢◌, ℕ, ◌+◌, ◌<◌, ◌-◌, ◌^◌, ◌⊎◌, inl, inr, min, Bool, true, false, cond, eqb, ◌||◌, List, [], ◌∷◌, ◌++◌, map, length, Option, Some, None, is_some, refl, sym, ap, ◌∙◌, subst, arith}
 use Rattle.std.proofs.lemmas.Bool.{false≢true}
 use Rattle.std.proofs.lemmas.Bool.Decides.{nat_tests}
 use Rattle.std.proofs.lemmas.List.Folds.{list_any-append}
@@ -13,28 +13,29 @@ use Rattle.wc_board.specs.Served.{StaysOrStarves}
 use Rattle.wc_servers.specs.Seats.{server_link}
 use Rattle.wc_core.specs.Events.{Event, Fails}
 use Rattle.wc_core.specs.CoreView.{CoreView}
-use Rattle.wc_core.specs.State.{State}
+use Rattle.wc_core.specs.State.{State, Beside, Stepped, beside}
 use Rattle.wc_core.specs.Step.{step, run, link_loss_step, client_link}
-use Rattle.wc_core.specs.Served.{links_of, clients_of, state_of, close_of, or_else, Distinct, Does, LeavesBy, KeepsClients, ChangesServers, plain_beside}
+use Rattle.wc_core.specs.Served.{links_of, clients_of, state_of, WereTold, close_of, or_else, Distinct, Does, LeavesBy, KeepsClients, ChangesServers, plain_beside}
+use Rattle.wc_eval.specs.Verdicts.{Oracle, Agrees}
 use Rattle.wc_core.specs.ServersKept.{LosesServer}
 use Rattle.wc_core.proofs.ConnectionLemmas.{client-missing}
-use Rattle.wc_core.proofs.DidLemmas.{or_else-none, close_of-append, KeepsClients-trans}
+use Rattle.wc_core.proofs.DidLemmas.{or_else-none, close_of-append, KeepsClients-refl, KeepsClients-trans}
 use Rattle.wc_core.proofs.ServerCloses.{server_loss-closes}
 use Rattle.wc_turns.specs.Contained.{HasStarved}
 use Rattle.wc_turns.specs.Events.{loss_of}
-use Rattle.wc_turns.specs.Parties.{is_refused}
+use Rattle.wc_turns.specs.Links.{AreAllBut}
+use Rattle.wc_turns.specs.Parties.{is_refused, IsVacant}
 use Rattle.wc_turns.specs.Served.{MayRun}
-use Rattle.wc_turns.specs.Steps.{LosesLink, TakesAside, LosesEach, MissesUnlisted}
+use Rattle.wc_turns.specs.Steps.{LosesLink, TakesAside, LosesEach}
 use Rattle.wc_turns.proofs.ArriveLemmas.{no-starving}
-use Rattle.wc_turns.proofs.ContainedLemmas.{starved-later}
 use Rattle.wc_turns.proofs.KeyedLemmas.{none_of, same-keys}
 use Rattle.wc_turns.proofs.RunLemmas.{run-append-acts, ReachesEvents-all, ReachesEvents-over}
 use Rattle.wc_turns.proofs.ServedLemmas.{MayRun-none, MayRun-one, MayRun-trans}
 use Rattle.wc_turns.proofs.SeatLemmas.{loses-keeps}
-use Rattle.wc_core.specs.State.{beside}
 use Rattle.wc_core.proofs.OracleLemmas.{Agrees-before}
-use Rattle.wc_turns.specs.Goes.{Goes, LosesWhole, AreEnds}
-use Rattle.wc_turns.proofs.GoesLemmas.{Goes-same, Goes-both, Goes-lost, Goes-ends}
+use Rattle.wc_turns.specs.Goes.{Goes, LosesWhole}
+use Rattle.wc_turns.proofs.ListedLemmas.{LastAmong, but-last, but-weaker}
+use Rattle.wc_turns.proofs.VacantLemmas.{vacant-keeps, run-vacant, MayRun-vacant}
 
 -- ---- one loss
 
@@ -103,27 +104,26 @@ LosesLink-of x y link why does stays gone server whole = record {
   leaves = λ distinct none. own-left x y link why does distinct none;
 }
 
--- at a loss for want of memory each client does
-pub starved-stays : (x y : CoreView) (link : ℕ) → Does x y (λ state. link_loss_step state link NoMemory (at_key client_link link state.clients)) → Distinct (links_of x) → (k : ℕ) → StaysOrStarves (leaving_on k x.connections) (leaving_on k y.connections)
-starved-stays x y link does distinct k = by (at_key client_link link (clients_of x.connections)) ((does (plain_beside x)).causes distinct k)
-  where
-    state : State
-    state = state_of x (plain_beside x)
-
-    own-by : (t : Bool) → (before : Option Cause) → leaving_on k y.connections ≡ or_else before (or_else (cond t (Some NoMemory) None) None) → StaysOrStarves before (leaving_on k y.connections)
-    own-by true None e = inr e
-    own-by false None e = inl e
-    own-by t (Some cause) e = inl e
-
-    by : (o : Option Client) → LeavesBy (leaving_on k x.connections) (close_of k (link_loss_step state link NoMemory o).acts) (leaving_on k y.connections) → StaysOrStarves (leaving_on k x.connections) (leaving_on k y.connections)
-    by None (inl e) = inl (e ∙ ap (or_else (leaving_on k x.connections)) (server_loss-closes k link NoMemory state (at_key server_link link state.servers)) ∙ or_else-none (leaving_on k x.connections))
-    by (Some client) (inl e) = own-by (eqb link k) (leaving_on k x.connections) e
-    by o (inr starves) = starves
-
 -- ---- losses one after another
 
 pub LosesEach-none : (x : CoreView) → LosesEach [] x x
-LosesEach-none x = record { runs = MayRun-none x; goes = Goes-same x x refl; quits = refl; wanted = refl; causes = λ distinct k out. inl refl; closes = λ aside same below distinct told were agrees k. refl }
+LosesEach-none x = record {
+  keeps = KeepsClients-refl x;
+  runs = λ all but. MayRun-vacant x all but;
+  none = λ e. refl;
+  quits = refl;
+  wanted = refl;
+  causes = λ distinct k out. inl refl;
+  closes = λ aside same below distinct told were agrees all but k. ap (λ (s : Stepped). close_of k s.acts) (run-vacant x told all but);
+}
+
+losses-append : (xs ys : List LinkId) → map loss_of (xs ++ ys) ≡ map loss_of xs ++ map loss_of ys
+losses-append [] ys = refl
+losses-append (l ∷ xs) ys = ap (λ es. loss_of l ∷ es) (losses-append xs ys)
+
+not-empty : (links : List LinkId) (link : LinkId) → links ++ link ∷ [] ≡ [] → ⊥
+not-empty [] link e = cc
+not-empty (l ∷ links) link e = cc
 
 refused-more : (k : ℕ) (links : List LinkId) (link : LinkId) → is_refused k (links ++ link ∷ []) ≡ (is_refused k links || (eqb link.0 k || false))
 refused-more k links link = list_any-append (λ (one : LinkId). eqb one.0 k) links (link ∷ [])
@@ -139,37 +139,60 @@ not-second false false e = refl
 
 pub LosesEach-more : (x y z : CoreView) (links : List LinkId) (link : LinkId) → y.quits ≡ false → LosesEach links x y → Does y z (λ state. link_loss_step state link.0 Failed (at_key client_link link.0 state.clients)) → z.quits ≡ y.quits → LosesServer (is_open_at (at_key connection_link link.0 y.connections)) link.0 Failed y.servers z.servers → LosesWhole link.0 Failed y z → LosesEach (links ++ link ∷ []) x z
 LosesEach-more x y z links link going h does quits loses whole = record {
-  goes = Goes-both [] [] x y z h.goes (Goes-lost link.0 Failed y z (inl refl) whole);
-  runs = subst (MayRun x z) (sym (map-more links)) (MayRun-trans x y z (map loss_of links) (Fails link.0 ∷ []) going h.runs (MayRun-one y z (Fails link.0) does whole));
+  keeps = keeps;
+  runs = λ all but. runs all (but-last (IsVacant x) links link all but);
+  none = λ e. absurd (not-empty links link e);
   quits = quits ∙ h.quits;
   wanted = (loses-keeps (is_open_at (at_key connection_link link.0 y.connections)) link.0 Failed y.servers z.servers loses).wanted ∙ h.wanted;
   causes = λ distinct k out.
       let parts = sym (refused-more k links link) ∙ out in
       let other : k ≢ link.0 = λ q. (let test = not-second (is_refused k links) (eqb link.0 k) parts in let n : link.0 ≢ k = grind (arith, nat_tests) in n (sym q)) in
       stays-further (leaving_on k x.connections) (leaving_on k y.connections) (leaving_on k z.connections) (h.causes distinct k (not-first (is_refused k links) (eqb link.0 k || false) parts))
-      (lost-stays y z link.0 Failed does (subst Distinct (sym h.runs.keeps.links) distinct) k other);
-  closes = λ aside same below distinct told were agrees k.
-      let first = h.runs.keeps.rises in
-      let second = (does (plain_beside y)).keeps.rises in
-      let half : y.starved ≡ x.starved = omega arith in
-      let earlier = Agrees-before told.oracle y.verdicts z.verdicts (does (plain_beside y)).keeps.verdicts agrees in
-      let did = h.runs.does half below distinct told were earlier in
-      let rows = (beside (run (state_of x told) (map loss_of links)).state) in
-      let none : at_key connection_link link.0 y.connections ≡ None = none_of _ (same-keys connection_link link.0 y.connections x.connections h.runs.keeps.links ∙ ap is_some (aside link.0 (refused-more link.0 links link ∙ last-one (is_refused link.0 links) link.0))) in
-      let one : close_of k ((step (state_of y rows) (Fails link.0)).acts ++ []) ≡ None = close_of-append k (step (state_of y rows) (Fails link.0)).acts [] ∙ or_else-none (close_of k (step (state_of y rows) (Fails link.0)).acts) ∙ lost-none link.0 Failed (state_of y rows) (at_key client_link link.0 (clients_of y.connections)) (client-missing link.0 y.connections none) k in
-      let before = h.closes (λ j e. aside j (refused-more j links link ∙ ap (λ t. t || (eqb link.0 j || false)) e)) half below distinct told were earlier k in
-      ap (λ es. close_of k (run (state_of x told) es).acts) (map-more links) ∙ ap (close_of k) (run-append-acts (state_of x told) (map loss_of links) (Fails link.0 ∷ []))
-      ∙ close_of-append k (run (state_of x told) (map loss_of links)).acts (run (run (state_of x told) (map loss_of links)).state (Fails link.0 ∷ [])).acts
-      ∙ ap (λ o. or_else o (close_of k (run (run (state_of x told) (map loss_of links)).state (Fails link.0 ∷ [])).acts)) before
-      ∙ ap (λ s. close_of k (run s (Fails link.0 ∷ [])).acts) did.means.same ∙ one;
+      (lost-stays y z link.0 Failed does (subst Distinct (sym h.keeps.links) distinct) k other);
+  closes = λ aside same below distinct told were agrees all but k. closes aside same below distinct told were agrees all (but-last (IsVacant x) links link all but) k;
 } where
-  map-more : (ls : List LinkId) → map loss_of (ls ++ link ∷ []) ≡ map loss_of ls ++ Fails link.0 ∷ []
-  map-more [] = refl
-  map-more (l ∷ ls) = ap (λ es. loss_of l ∷ es) (map-more ls)
-
   last-one : (b : Bool) (n : ℕ) → (b || (eqb n n || false)) ≡ true
   last-one true n = refl
   last-one false n = (let test : eqb n n ≡ true = grind (arith, nat_tests) in rw test refl)
+
+  keeps : KeepsClients x z
+  keeps = KeepsClients-trans x y z h.keeps (does (plain_beside y)).keeps
+
+  -- at those that come after it nobody is
+  after : (all : List LinkId) (s : LastAmong (IsVacant x) links link all) → AreAllBut (IsVacant z) [] s.back
+  after all s = but-weaker (IsVacant x) (IsVacant z) (vacant-keeps x z keeps) [] s.back s.after
+
+  losses : (all : List LinkId) (s : LastAmong (IsVacant x) links link all) → map loss_of all ≡ map loss_of s.front ++ Fails link.0 ∷ map loss_of s.back
+  losses all s = ap (λ ls. map loss_of ls) s.same ∙ losses-append s.front (link ∷ s.back)
+
+  runs : (all : List LinkId) → LastAmong (IsVacant x) links link all → MayRun x z (map loss_of all)
+  runs all s = subst (MayRun x z) (sym (losses all s))
+      (MayRun-trans x y z (map loss_of s.front) (Fails link.0 ∷ map loss_of s.back) going (h.runs s.front s.before)
+      (MayRun-trans y z z (Fails link.0 ∷ []) (map loss_of s.back) (quits ∙ going) (MayRun-one y z (Fails link.0) does whole) (MayRun-vacant z s.back (after all s))))
+
+  closes : ((k : ℕ) → is_refused k (links ++ link ∷ []) ≡ true → at_key connection_link k x.connections ≡ None) → z.starved ≡ x.starved → x.starved < 2 ^ 64 - 1 → Distinct (links_of x) → (told : Beside) → WereTold x told → Agrees told.oracle z.verdicts → (all : List LinkId) → LastAmong (IsVacant x) links link all → (k : ℕ) → close_of k (run (state_of x told) (map loss_of all)).acts ≡ None
+  closes aside same below distinct told were agrees all s k =
+      let front = map loss_of s.front in
+      let back = map loss_of s.back in
+      let first = h.keeps.rises in
+      let second = (does (plain_beside y)).keeps.rises in
+      let half : y.starved ≡ x.starved = omega arith in
+      let later : z.starved ≡ y.starved = omega arith in
+      let under : y.starved < 2 ^ 64 - 1 = omega arith in
+      let earlier = Agrees-before told.oracle y.verdicts z.verdicts (does (plain_beside y)).keeps.verdicts agrees in
+      let did = (h.runs s.front s.before).does half below distinct told were earlier in
+      let rows = beside (run (state_of x told) front).state in
+      let lost = (does rows).does later under (subst Distinct (sym h.keeps.links) distinct) did.means.told (subst (λ (o : Oracle). Agrees o z.verdicts) (sym did.oracle) agrees) in
+      let over = (step (state_of y rows) (Fails link.0)).state in
+      let none : at_key connection_link link.0 y.connections ≡ None = none_of _ (same-keys connection_link link.0 y.connections x.connections h.keeps.links ∙ ap is_some (aside link.0 (refused-more link.0 links link ∙ last-one (is_refused link.0 links) link.0))) in
+      let one : close_of k (step (state_of y rows) (Fails link.0)).acts ≡ None = lost-none link.0 Failed (state_of y rows) (at_key client_link link.0 (clients_of y.connections)) (client-missing link.0 y.connections none) k in
+      let rest : close_of k (run over back).acts ≡ None = ap (λ (t : State). close_of k (run t back).acts) lost.means.same ∙ ap (λ (t : Stepped). close_of k t.acts) (run-vacant z (beside over) s.back (after all s)) in
+      let both : close_of k (run (state_of y rows) (Fails link.0 ∷ back)).acts ≡ None = close_of-append k (step (state_of y rows) (Fails link.0)).acts (run over back).acts ∙ ap (λ o. or_else o (close_of k (run over back).acts)) one ∙ rest in
+      let before = h.closes (λ j e. aside j (refused-more j links link ∙ ap (λ t. t || (eqb link.0 j || false)) e)) half below distinct told were earlier s.front s.before k in
+      ap (λ es. close_of k (run (state_of x told) es).acts) (losses all s) ∙ ap (close_of k) (run-append-acts (state_of x told) front (Fails link.0 ∷ back))
+      ∙ close_of-append k (run (state_of x told) front).acts (run (run (state_of x told) front).state (Fails link.0 ∷ back)).acts
+      ∙ ap (λ o. or_else o (close_of k (run (run (state_of x told) front).state (Fails link.0 ∷ back)).acts)) before
+      ∙ ap (λ (t : State). close_of k (run t (Fails link.0 ∷ back)).acts) did.means.same ∙ both
 
 -- ---- all that stood as refused
 
@@ -178,38 +201,15 @@ map-size [] = refl
 map-size (l ∷ ls) = let ih = map-size ls in omega arith
 
 -- `/quit` was run before, and no loss is reached
-pub lost-over : (x y : CoreView) (refused : List LinkId) (unlisted ran : ℕ) → x.quits ≡ y.quits → y.quits ≡ true → MissesUnlisted unlisted x y → (all : List Event) → TakesAside refused x y ran ran all
-lost-over x y refused unlisted ran same over misses all = over-by unlisted misses
-  where
-    over-by : (n : ℕ) → MissesUnlisted n x y → TakesAside refused x y ran ran all
-    over-by zero m = record {
-      takes = record { events = []; reaches = ReachesEvents-over x.quits y.quits ran all over; takes = subst (λ c. MayRun x c []) (sym (m.none refl)) (MayRun-none x) };
-      closes = λ aside still below distinct told were agrees k. refl;
-    }
-    over-by (suc n) m = record {
-      takes = record { events = []; reaches = ReachesEvents-over x.quits y.quits ran all over; takes = MayRun-starved x y [] m.keeps (m.starves (omega arith)) m.goes };
-      closes = λ aside still below distinct told were agrees k. refl;
-    }
+pub lost-over : (x : CoreView) (refused : List LinkId) (ran : ℕ) → x.quits ≡ true → (all : List Event) → TakesAside refused x x ran ran all
+lost-over x refused ran over all = record {
+  takes = record { events = []; reaches = ReachesEvents-over x.quits x.quits ran all over; takes = MayRun-none x };
+  closes = λ aside still below distinct told were agrees k. refl;
+}
 
--- they are lost
-pub lost-all : (x y z : CoreView) (refused : List LinkId) (unlisted ran ran' : ℕ) → x.quits ≡ false → MissesUnlisted unlisted x y → LosesEach refused y z → ran' ≡ min (min (ran + length refused) (2 ^ 64 - 1) + unlisted) (2 ^ 64 - 1) → (all : List Event) → (unlisted ≡ 0 → all ≡ map loss_of refused) → length all ≡ length refused + unlisted → AreEnds all → TakesAside refused x z ran ran' all
-lost-all x y z refused unlisted ran ran' going misses loses count all listed size ends = all-by unlisted misses count listed size
-  where
-    all-by : (n : ℕ) → MissesUnlisted n x y → ran' ≡ min (min (ran + length refused) (2 ^ 64 - 1) + n) (2 ^ 64 - 1) → (n ≡ 0 → all ≡ map loss_of refused) → length all ≡ length refused + n → TakesAside refused x z ran ran' all
-    all-by zero m c l s =
-        let same : y ≡ x = m.none refl in
-        let each : LosesEach refused x z = subst (λ w. LosesEach refused w z) same loses in
-        subst (TakesAside refused x z ran ran') (sym (l refl)) (record {
-          takes = record { events = map loss_of refused; reaches = ReachesEvents-all x.quits z.quits ran ran' (map loss_of refused) going (λ fits. (let n = map-size refused in omega arith)); takes = each.runs };
-          closes = λ aside still below distinct told were agrees k. each.closes aside still below distinct told were agrees k;
-        })
-    all-by (suc n) m c l s =
-        let starved : HasStarved x.starved z.starved = starved-later x.starved y.starved z.starved loses.runs.keeps.rises (m.starves (omega arith)) in
-        record {
-          takes = record { events = all; reaches = ReachesEvents-all x.quits z.quits ran ran' all going (λ fits. omega arith); takes = MayRun-starved x z all (KeepsClients-trans x y z m.keeps loses.runs.keeps) starved (Goes-ends all x z ends (Goes-both [] [] x y z m.goes loses.goes)) };
-          closes = λ aside still below distinct told were agrees k. no-starving x.starved z.starved starved still below;
-        }
-
-pub lost-causes : (x y z : CoreView) (refused : List LinkId) (unlisted : ℕ) → MissesUnlisted unlisted x y → LosesEach refused y z → Distinct (links_of x) → (k : ℕ) → is_refused k refused ≡ false → StaysOrStarves (leaving_on k x.connections) (leaving_on k z.connections)
-lost-causes x y z refused unlisted misses loses distinct k out =
-    stays-further (leaving_on k x.connections) (leaving_on k y.connections) (leaving_on k z.connections) (misses.causes distinct k) (loses.causes (subst Distinct (sym misses.keeps.links) distinct) k out)
+-- they are lost, and so are those that are not listed
+pub lost-all : (x y : CoreView) (refused : List LinkId) (unlisted ran ran' : ℕ) → x.quits ≡ false → LosesEach refused x y → ran' ≡ min (min (ran + length refused) (2 ^ 64 - 1) + unlisted) (2 ^ 64 - 1) → (lost : List LinkId) → AreAllBut (IsVacant x) refused lost → length lost ≡ length refused + unlisted → TakesAside refused x y ran ran' (map loss_of lost)
+lost-all x y refused unlisted ran ran' going loses count lost but size = record {
+  takes = record { events = map loss_of lost; reaches = ReachesEvents-all x.quits y.quits ran ran' (map loss_of lost) going (λ fits. (let n = map-size lost in omega arith)); takes = loses.runs lost but };
+  closes = λ aside still below distinct told were agrees k. loses.closes aside still below distinct told were agrees lost but k;
+}

@@ -56,7 +56,7 @@ takes-written x h a b ran ran' past closed more c = record {
   reaches = c.reaches;
   rises = c.rises;
   verdicts = c.verdicts;
-  goes = Goes-then c.events x.core h.core (written_state h).core c.goes (Goes-kept h.core (written_state h).core (record { state = λ told. refl; pending = refl; starved = refl; quits = refl }));
+  goes = Goes-then c.events x.core h.core (written_state h).core c.goes (Goes-kept h.core (written_state h).core (record { state = λ told. refl; nobody = λ k e. e; pending = refl; starved = refl; quits = refl }));
   advances = λ same below told were agrees.
       let m = c.advances same below told were agrees in
       record { means = record { same = m.means.same; told = m.means.told }; oracle = m.oracle; stops = m.stops; hands = m.hands; sides = record { clients = m.sides.clients; servers = m.sides.servers }; asks = m.asks; closes = m.closes; quits = m.quits };

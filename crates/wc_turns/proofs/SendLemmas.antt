@@ -173,7 +173,7 @@ LoopStep-kept x core links a b link kept states closed call choked asked same ha
     (λ k plain gone. nothing t s k plain (gone-nobody k x.used x.core gone))
     kept.sides
     (ap (λ xs. xs ++ asks_of core.servers.wanted) (asked t) ∙ ap (λ ws. a.asked ++ asks_of ws) kept.wanted))
-    (λ s. Goes-kept x.core core (record { state = kept.state; pending = kept.pending; starved = kept.starved; quits = kept.quits }))
+    (λ s. Goes-kept x.core core (record { state = kept.state; nobody = λ k e. kept.has k ∙ e; pending = kept.pending; starved = kept.starved; quits = kept.quits }))
 
 -- the same of what is sent on one link
 pub SendsOn-kept : (link : ℕ) (x : Headless) (core : CoreView) (links : Links) (a b : Seen) → KeepsAll link x.core core → KeepsStates x.links.opened.items links.opened.items → links.closed ≡ x.links.closed → ((k : ℕ) → k ≢ link → frames_of (at_key link_number k links.opened.items) ≡ frames_of (at_key link_number k x.links.opened.items)) → NothingBecameReady a b → TakesNothing a b → ((k : ℕ) → k ≢ link → b.blocked k ≡ a.blocked k)

@@ -1,5 +1,5 @@
 -- A message of a WebSocket could not be put into a frame.
-use Rattle.std.proofs.Common.{◌≡◌, ℕ, true, false, List, [], ◌++◌, Option, Some, None, IsSome, is_some, refl, sym, ap, ◌∙◌, subst, arith, inr}
+use Rattle.std.proofs.Common.{◌≡◌, ℕ, true, false, List, [], ◌++◌, Option, Some, None, IsSome, is_some, refl, sym, ap, ◌∙◌, subst, arith}
 use Rattle.std.proofs.lemmas.List.{append-nil}
 use Rattle.wc_text.specs.declared.names.LinkId.{LinkId}
 use Rattle.wc_text.specs.declared.names.Cause.{Cause}
@@ -39,11 +39,35 @@ use Rattle.wc_turns.proofs.SendLemmas.{LoopStep-put, SendsOn-put}
 use Rattle.wc_turns.proofs.SocketLemmas.{refused-socket}
 use Rattle.wc_turns.proofs.TakesLemmas.{LoopStep-takes, causes-lost}
 use Rattle.wc_turns.proofs.TurnLemmas.{LoopStep-step, LoopStep-trans}
-use Rattle.wc_turns.proofs.GoesLemmas.{Goes-lost}
+use Rattle.wc_turns.proofs.GoesLemmas.{Goes-starved}
+
+-- where a message was refused, somebody is at the link
+refused-party : (link : ℕ) (x mid : Headless) (why : PutRefused) → PutsMessages link x mid (Some why) → has_party link x.core ≡ true
+refused-party link x mid why p = by (at_key link_number link x.links.opened.items) p
+  where
+    none : PutsNone x mid (Some why) → has_party link x.core ≡ true
+    none h = absurd (let q : Some why ≡ None = h.1 in cc)
+
+    unsent-by : (state : LinkState) (socket : Link) (o : Option (List ℕ)) → unsent_in_core link x.core ≡ o → PutsUnsent link state socket o x mid (Some why) → has_party link x.core ≡ true
+    unsent-by state socket None u h = none h
+    unsent-by state socket (Some unsent) u h = unsent-party link x.core unsent (sym u)
+
+    framing-by : (state : LinkState) (f : Framing) → PutsBy link state f x mid (Some why) → has_party link x.core ≡ true
+    framing-by state framing.Undecided h = none h
+    framing-by state framing.Plain h = none h
+    framing-by state (framing.Socket socket) h = unsent-by state socket (unsent_in_core link x.core) refl h
+
+    by : (o : Option LinkState) → PutsAt link o x mid (Some why) → has_party link x.core ≡ true
+    by None h = none h
+    by (Some state) h = framing-by state state.framing h
+
+-- and after those before it were put
+refused-there : (link : ℕ) (x mid : Headless) (a : Seen) (why : PutRefused) → PutsMessages link x mid (Some why) → has_party link mid.core ≡ true
+refused-there link x mid a why puts = sends-has link x mid a a (SendsOn-put link x mid a (Some why) puts) link ∙ refused-party link x mid why puts
 
 -- there was no memory for it: its client begins to leave, and no event is reached
-starved-step : (x : Headless) (core : CoreView) (link : LinkId) (a : Seen) → LosesLink link.0 NoMemory x.core core → HasStarved x.core.starved core.starved → IsCalm x.core → x.core.quits ≡ false → LoopStep true 0 0 x (record x { core = core }) a a
-starved-step x core link a loses starved calm going =
+starved-step : (x : Headless) (core : CoreView) (link : LinkId) (a : Seen) → has_party link.0 x.core ≡ true → LosesLink link.0 NoMemory x.core core → HasStarved x.core.starved core.starved → IsCalm x.core → x.core.quits ≡ false → LoopStep true 0 0 x (record x { core = core }) a a
+starved-step x core link a there loses starved calm going =
     let y : Headless = record x { core = core } in
     let states = x.links.opened.items in
     let keep = loses.keeps.servers in
@@ -64,7 +88,7 @@ starved-step x core link a loses starved calm going =
       reaches = ReachesEvents-none x.core.quits core.quits x.ran;
       rises = loses.keeps.rises;
       verdicts = loses.keeps.verdicts;
-      goes = Goes-lost link.0 NoMemory x.core core (inr refl) loses.whole;
+      goes = Goes-starved link.0 x.core core (record { there = there; loses = loses.whole });
       advances = λ same below rows were agrees. no-starving x.core.starved core.starved starved same below;
       silent = λ over. refl;
       ends = tt;
@@ -88,30 +112,10 @@ LoopStep-frame x y link a calm going p =
     LoopStep-trans x mid y a a a (LoopStep-put x mid a link.0 why puts) (lost mid why calm' (sends.quits ∙ going) puts p.1.1.1)
   where
     lost : (mid : Headless) (why : Option PutRefused) → IsCalm mid.core → mid.core.quits ≡ false → PutsMessages link.0 x mid why → LosesRefused link.0 mid y why → LoopStep true 0 0 mid y a a
-    lost mid why calm' going' puts (starves e rest loses starved) = subst (λ z. LoopStep true 0 0 mid z a a) (sym rest) (starved-step mid y.core link a loses starved calm' going')
+    lost mid why calm' going' puts (starves e rest loses starved) = subst (λ z. LoopStep true 0 0 mid z a a) (sym rest) (starved-step mid y.core link a (refused-there link.0 x mid a _ (subst (PutsMessages link.0 x mid) e puts)) loses starved calm' going')
     lost mid why calm' going' puts (breaks e takes loses) = broken-step mid y link a calm' going' (refused-socket link.0 x mid _ (subst (PutsMessages link.0 x mid) e puts)) takes loses
 
 -- ---- what holds after it
-
--- and then somebody is at it
-refused-party : (link : ℕ) (x mid : Headless) (why : PutRefused) → PutsMessages link x mid (Some why) → has_party link x.core ≡ true
-refused-party link x mid why p = by (at_key link_number link x.links.opened.items) p
-  where
-    none : PutsNone x mid (Some why) → has_party link x.core ≡ true
-    none h = absurd (let q : Some why ≡ None = h.1 in cc)
-
-    unsent-by : (state : LinkState) (socket : Link) (o : Option (List ℕ)) → unsent_in_core link x.core ≡ o → PutsUnsent link state socket o x mid (Some why) → has_party link x.core ≡ true
-    unsent-by state socket None u h = none h
-    unsent-by state socket (Some unsent) u h = unsent-party link x.core unsent (sym u)
-
-    framing-by : (state : LinkState) (f : Framing) → PutsBy link state f x mid (Some why) → has_party link x.core ≡ true
-    framing-by state framing.Undecided h = none h
-    framing-by state framing.Plain h = none h
-    framing-by state (framing.Socket socket) h = unsent-by state socket (unsent_in_core link x.core) refl h
-
-    by : (o : Option LinkState) → PutsAt link o x mid (Some why) → has_party link x.core ≡ true
-    by None h = none h
-    by (Some state) h = framing-by state state.framing h
 
 pub record Unput (link : ℕ) (x y : Headless) : Type 0 where
   pub keeps : KeepsLinks x y
@@ -126,7 +130,7 @@ Unput-of x y link a p = by p.0 p.1.0 p.1.1.0 p.1.1.1
     lost : (mid : Headless) (why : PutRefused) (cause : Cause) → PutsMessages link.0 x mid (Some why) → KeepsLinks mid y → LosesLink link.0 cause mid.core y.core → Unput link.0 x y
     lost mid why cause puts keeps loses =
         let sends = SendsOn-put link.0 x mid a (Some why) puts in
-        let there : has_party link.0 mid.core ≡ true = sends-has link.0 x mid a a sends link.0 ∙ refused-party link.0 x mid why puts in
+        let there = refused-there link.0 x mid a why puts in
         record {
           keeps = KeepsLinks-trans x mid y (KeepsLinks-sends link.0 x mid a a sends) keeps;
           quits = loses.quits ∙ sends.quits;

@@ -1,5 +1,5 @@
 -- Waits return.
-use Rattle.std.proofs.Common.{◌≡◌, ◌⊎◌, inl, inr, ℕ, ◌+◌, ◌-◌, ◌^◌, ◌<◌, ◌≤◌, min, Bool, true, false, not, cond, eqb, ◌&&◌, ◌||◌, IsTrue, List, [], ◌∷◌, ◌++◌, map, take, length, slice_index_or, Option, Some, None, is_some, All, refl, sym, ap, ◌∙◌, subst, arith, append_assoc, zero, suc}
+use Rattle.std.proofs.Common.{◌≡◌, ◌⊎◌, inl, inr, ℕ, ◌+◌, ◌-◌, ◌^◌, ◌<◌, ◌≤◌, min, Bool, true, false, not, cond, eqb, ◌&&◌, ◌||◌, IsTrue, List, [], ◌∷◌, ◌++◌, map, take, length, slice_index_or, Option, Some, None, is_some, All, refl, sym, ap, ◌∙◌, subst, arith, append_assoc}
 use Rattle.std.specs.List.{list_any}
 use Rattle.std.proofs.lemmas.Bool.{false≢true}
 use Rattle.std.proofs.lemmas.Bool.Decides.{nat_tests}
@@ -25,11 +25,11 @@ use Rattle.wc_core.specs.Served.{links_of, state_of, close_of, or_else, Distinct
 use Rattle.wc_core.proofs.CloseLemmas.{pushes-closes, starts-closes}
 use Rattle.wc_core.proofs.ServerCloses.{stands-closes}
 use Rattle.wc_servers.specs.Seats.{server_link}
-use Rattle.wc_core.proofs.DidLemmas.{or_else-none, saves-as, KeepsSaved-trans, close_of-append, KeepsClients-trans}
+use Rattle.wc_core.proofs.DidLemmas.{or_else-none, saves-as, KeepsSaved-trans, close_of-append}
 use Rattle.wc_turns.specs.declared.links.Closed.{Closed}
 use Rattle.wc_turns.specs.Contained.{is_known, HasStarved, KeepsLinks}
 use Rattle.wc_turns.specs.Events.{is_tick, clock, clock_from, wake_events, loss_of, refused_since}
-use Rattle.wc_turns.specs.Links.{link_number, is_undrained, is_blocked, changed_at, reported_state, is_there, kind_of}
+use Rattle.wc_turns.specs.Links.{link_number, is_undrained, is_blocked, changed_at, reported_state, is_there, kind_of, IsUnkept, AreAllBut}
 use Rattle.wc_turns.specs.Served.{leaving_closes, closed_number, MayRun, ReachesEvents}
 use Rattle.wc_turns.specs.Steps.{MarksLink, ReportsSources, BeginsTurn, SameKinds, TakesAside, WakesParties}
 use Rattle.wc_turns.specs.Turns.{LoopStep, CausedBy, moment, closed_so_far, AgreesWithHappenings, AgreesOnLinks, AgreesWithSockets, MomentAdvances, HasCause, HasReason}
@@ -56,9 +56,10 @@ use Rattle.wc_turns.proofs.TurnLemmas.{Call, LoopStep-step, onward-of}
 use Rattle.wc_core.specs.State.{Beside, beside}
 use Rattle.wc_core.specs.ServersKept.{is_wanted, AreInOrder, parts_in}
 use Rattle.wc_servers.specs.Outs.{wanted_in}
-use Rattle.wc_turns.specs.Parties.{is_refused, asks_of, asks_in, seat_closes, closes_asked, IsCalm}
-use Rattle.wc_turns.proofs.LossLemmas.{MayRun-starved, stays-further}
-use Rattle.wc_turns.proofs.ArriveLemmas.{no-starving}
+use Rattle.wc_turns.specs.Parties.{IsVacant, is_refused, asks_of, asks_in, seat_closes, closes_asked, IsCalm}
+use Rattle.wc_turns.proofs.LossLemmas.{stays-further}
+use Rattle.wc_turns.proofs.ListedLemmas.{but-weaker}
+use Rattle.wc_turns.proofs.VacantLemmas.{vacant-keeps}
 use Rattle.wc_turns.proofs.PartyLemmas.{among-come, party-used, clients-above, calm-clients, calm-seats}
 use Rattle.wc_turns.proofs.SeatLemmas.{calm-partings}
 use Rattle.wc_turns.proofs.CauseLemmas.{turn-reasons, Onward-none}
@@ -67,8 +68,7 @@ use Rattle.wc_board.specs.declared.connection.Connection.{Connection}
 use Rattle.wc_turns.specs.declared.links.LinkState.{LinkState}
 use Rattle.wc_eval.specs.Verdicts.{Oracle, Agrees}
 use Rattle.wc_core.proofs.OracleLemmas.{Agrees-before}
-use Rattle.wc_turns.specs.Goes.{AreEnds, DoesWhole}
-use Rattle.wc_turns.proofs.GoesLemmas.{Goes-both}
+use Rattle.wc_turns.specs.Goes.{DoesWhole}
 use Rattle.wc_core.specs.Starts.{Starts}
 
 pub ReportsSources-none : (x : Headless) → ReportsSources x x []
@@ -243,54 +243,30 @@ wake-leaves k (Some last) moment state = by (is_tick last moment)
     by false = refl
 
 -- the event of a wait, and the losses after it
-pub aside-after : (x c y : CoreView) (refused : List LinkId) (unlisted ran mid ran' moment : ℕ) (last : Option ℕ) → x.quits ≡ false → MayRun x c (wake_events last moment) → mid ≡ min (ran + length (wake_events last moment)) (2 ^ 64 - 1) → KeepsClients c y → y.quits ≡ c.quits → (1 ≤ unlisted → HasStarved c.starved y.starved)
-    → ((all : List Event) → (unlisted ≡ 0 → all ≡ map loss_of refused) → length all ≡ length refused + unlisted → AreEnds all → TakesAside refused c y mid ran' all)
-    → (all : List Event) → (unlisted ≡ 0 → all ≡ map loss_of refused) → length all ≡ length refused + unlisted → AreEnds all → TakesAside refused x y ran ran' (wake_events last moment ++ all)
-aside-after x c y refused unlisted ran mid ran' moment last going woke count keeps quits starves loses all listed size ends = by unlisted refl
+pub aside-after : (x c y : CoreView) (refused : List LinkId) (unlisted ran mid ran' moment : ℕ) (last : Option ℕ) → x.quits ≡ false → MayRun x c (wake_events last moment) → mid ≡ min (ran + length (wake_events last moment)) (2 ^ 64 - 1) → KeepsClients c y → y.quits ≡ c.quits
+    → ((lost : List LinkId) → AreAllBut (IsVacant c) refused lost → length lost ≡ length refused + unlisted → TakesAside refused c y mid ran' (map loss_of lost))
+    → (lost : List LinkId) → AreAllBut (IsVacant x) refused lost → length lost ≡ length refused + unlisted → TakesAside refused x y ran ran' (wake_events last moment ++ map loss_of lost)
+aside-after x c y refused unlisted ran mid ran' moment last going woke count keeps quits loses lost but size =
+    let t = loses lost (but-weaker (IsVacant x) (IsVacant c) (vacant-keeps x c woke.keeps) refused lost but) size in
+    record {
+      takes = record {
+        events = wake ++ t.takes.events;
+        reaches = ReachesEvents-trans x.quits c.quits y.quits ran mid ran' wake (map loss_of lost) wake t.takes.events (λ over. absurd (false≢true (sym going ∙ over))) (λ over. quits ∙ over) (ReachesEvents-all x.quits c.quits ran mid wake going (λ fits. count)) t.takes.reaches;
+        takes = MayRun-then x c y wake t.takes.events t.takes.reaches.nothing woke t.takes.takes;
+      };
+      closes = λ aside still below distinct told were agrees k.
+          let rises = woke.keeps.rises in
+          let later = keeps.rises in
+          let half : c.starved ≡ x.starved = omega arith in
+          let did = woke.does half below distinct told were (Agrees-before told.oracle c.verdicts y.verdicts keeps.verdicts agrees) in
+          let rows = (beside (run (state_of x told) wake).state) in
+          let one = t.closes (λ j e. none_of _ (same-keys connection_link j c.connections x.connections woke.keeps.links ∙ ap is_some (aside j e))) (let f = still in omega arith) (let f = below in omega arith) (subst Distinct (sym woke.keeps.links) distinct) rows did.means.told (subst (λ (o : Oracle). Agrees o y.verdicts) (sym did.oracle) agrees) k in
+          ap (close_of k) (run-append-acts (state_of x told) wake t.takes.events) ∙ close_of-append k (run (state_of x told) wake).acts (run (run (state_of x told) wake).state t.takes.events).acts
+          ∙ ap (λ o. or_else o (close_of k (run (run (state_of x told) wake).state t.takes.events).acts)) (wake-leaves k last moment (state_of x told)) ∙ ap (λ s. close_of k (run s t.takes.events).acts) did.means.same ∙ one;
+    }
   where
     wake : List Event
     wake = wake_events last moment
-
-    map-size : (links : List LinkId) → length (map loss_of links) ≡ length links
-    map-size [] = refl
-    map-size (l ∷ ls) = let ih = map-size ls in omega arith
-
-    on : c.quits ≡ true → y.quits ≡ true
-    on over = quits ∙ over
-
-    first : (es : List Event) → length es ≡ length wake → ReachesEvents x.quits c.quits ran mid es es
-    first es same = ReachesEvents-all x.quits c.quits ran mid es going (λ fits. omega arith)
-
-    by : (n : ℕ) → unlisted ≡ n → TakesAside refused x y ran ran' (wake ++ all)
-    by zero none =
-        let t = loses all listed size ends in
-        record {
-          takes = record {
-            events = wake ++ t.takes.events;
-            reaches = ReachesEvents-trans x.quits c.quits y.quits ran mid ran' wake all wake t.takes.events (λ over. absurd (false≢true (sym going ∙ over))) on (first wake refl) t.takes.reaches;
-            takes = MayRun-then x c y wake t.takes.events t.takes.reaches.nothing woke t.takes.takes;
-          };
-          closes = λ aside still below distinct told were agrees k.
-              let rises = woke.keeps.rises in
-              let later = keeps.rises in
-              let half : c.starved ≡ x.starved = omega arith in
-              let did = woke.does half below distinct told were (Agrees-before told.oracle c.verdicts y.verdicts keeps.verdicts agrees) in
-              let rows = (beside (run (state_of x told) wake).state) in
-              let one = t.closes (λ j e. none_of _ (same-keys connection_link j c.connections x.connections woke.keeps.links ∙ ap is_some (aside j e))) (let f = still in omega arith) (let f = below in omega arith) (subst Distinct (sym woke.keeps.links) distinct) rows did.means.told (subst (λ (o : Oracle). Agrees o y.verdicts) (sym did.oracle) agrees) k in
-              ap (close_of k) (run-append-acts (state_of x told) wake t.takes.events) ∙ close_of-append k (run (state_of x told) wake).acts (run (run (state_of x told) wake).state t.takes.events).acts
-              ∙ ap (λ o. or_else o (close_of k (run (run (state_of x told) wake).state t.takes.events).acts)) (wake-leaves k last moment (state_of x told)) ∙ ap (λ s. close_of k (run s t.takes.events).acts) did.means.same ∙ one;
-        }
-    by (suc n) some =
-        let starved : HasStarved x.starved y.starved = starved-following x.starved c.starved y.starved woke.keeps.rises (starves (omega arith)) in
-        let t = loses all listed size ends in
-        record {
-          takes = record {
-            events = wake ++ t.takes.events;
-            reaches = ReachesEvents-trans x.quits c.quits y.quits ran mid ran' wake all wake t.takes.events (λ over. absurd (false≢true (sym going ∙ over))) on (first wake refl) t.takes.reaches;
-            takes = MayRun-starved x y (wake ++ t.takes.events) (KeepsClients-trans x c y woke.keeps keeps) starved (Goes-both wake t.takes.events x c y woke.goes t.takes.takes.goes);
-          };
-          closes = λ aside still below distinct told were agrees k. no-starving x.starved y.starved starved still below;
-        }
 
 -- ---- a turn begins
 
@@ -380,22 +356,22 @@ LoopStep-woke x y z a b m tokens call sent choked asked used there undrained lis
     LoopStep-step false 1 0 x z a b (Woke m ∷ []) (Happened (Woke m) ∷ []) (closes_asked z.core) refl call (λ below. (let t = begins.turns in let r = reports.turns in omega arith)) refl refl
     keeps.rises (λ t. absurd (false≢true t)) (λ s. reasons s) (λ s. sides-kept x.core z.core keeps.servers) (λ s. Onward-none x.core z.core (Woke m ∷ []) (let r = keeps.servers.reached in omega arith) (λ k. refl))
     (λ over. absurd (false≢true (sym going ∙ over))) (λ t. absurd (false≢true t)) among
-    (λ t s on. told (s.told (call.told t) going) (let e = (s.hears (call.told t) going).events in omega arith) on)
-    (λ t s on. hears s.history (s.spells (call.told t)) (s.told (call.told t) going) (s.hears (call.told t) going) on)
+    (λ t s on. told s.among (s.told (call.told t) going) (let e = (s.hears (call.told t) going).events in omega arith) on)
+    (λ t s on. hears s.history (s.spells (call.told t)) s.among (s.told (call.told t) going) (s.hears (call.told t) going) on)
     (λ t s k e. socket-stays k a.taken (Woke m ∷ []) (s.sockets (call.told t) k (socket-kinds (at_key link_number k x.links.opened.items) (at_key link_number k z.links.opened.items) (subst (λ o. SameKinds o z.links.opened.items) begins.opened reports.kinds k) e)))
     (λ s stopped. began s stopped)
     (λ t s. record {
-      events = (takes (s.told (call.told t) going)).takes.events;
-      reaches = rw (ap (λ taken. woke_events taken m) (s.spells (call.told t)), append-nil (woke_events a.taken m)) ((takes (s.told (call.told t) going)).takes.reaches);
+      events = (takes s.among (s.told (call.told t) going)).takes.events;
+      reaches = rw (ap (λ taken. woke_events taken m) (s.spells (call.told t)), append-nil (woke_events a.taken m)) ((takes s.among (s.told (call.told t) going)).takes.reaches);
       rises = keeps.rises;
       verdicts = keeps.verdicts;
-      goes = (takes (s.told (call.told t) going)).takes.takes.goes;
+      goes = (takes s.among (s.told (call.told t) going)).takes.takes.goes;
       advances = λ same below rows were agrees. advances t s same below rows were agrees (s.told (call.told t) going);
       silent = λ over. refl;
       ends = (tt, tt);
       last = λ same below rows were agrees on over.
-          let events = (takes (s.told (call.told t) going)).takes.events in
-          let did = (takes (s.told (call.told t) going)).takes.takes.does same below s.among.once rows were agrees in
+          let events = (takes s.among (s.told (call.told t) going)).takes.events in
+          let did = (takes s.among (s.told (call.told t) going)).takes.takes.does same below s.among.once rows were agrees in
           record { front = []; heard = Happened (Woke m); back = []; same = refl; within = some-events (state_of x.core rows) events (end-by x.core.quits z.core.quits _ going did.quits over); silent = refl };
     })
   where
@@ -411,57 +387,58 @@ LoopStep-woke x y z a b m tokens call sent choked asked used there undrained lis
     reasons : AgreesWithSockets x a → All (HasReason x z a b) (closed_so_far z)
     reasons s = subst (All (HasReason x z a b)) (ap (λ cs. cs ++ closes_asked z.core) (sym empty)) (All-weaker (HasCause x z a b) (HasReason x z a b) (λ c h. inr h) (closes_asked z.core) (woke-causes x z y a b m tokens calm begins reports call.taken s))
 
-    map-size : (links : List LinkId) → length (map loss_of links) ≡ length links
-    map-size [] = refl
-    map-size (l ∷ ls) = let ih = map-size ls in omega arith
+    -- nobody is at a link of which no record is kept
+    vacant : AgreesOnLinks x.links.opened.items x.core x.used x.listening x.refused.items a → (k : ℕ) → IsUnkept x.links.opened.items x.used k → IsVacant x.core k
+    vacant l k h =
+        let low = h.0 in
+        let reached = l.reached in (
+          omega arith,
+          l.parties k ∙ ap (λ (o : Option LinkState). is_some o || is_wanted k x.core.servers.wanted) h.1 ∙ ap (is_wanted k) calm.asked,
+        )
 
-    losses-end : (links : List LinkId) → AreEnds (map loss_of links)
-    losses-end [] = tt
-    losses-end (l ∷ ls) = (refl, losses-end ls)
-
-    takes : AgreesWithHappenings x.clock x.links.opened.items x.used x.ran x.refused.items x.unlisted a.taken → TakesAside x.refused.items x.core z.core x.ran z.ran (woke_events a.taken m)
-    takes t =
+    takes : AgreesOnLinks x.links.opened.items x.core x.used x.listening x.refused.items a → AgreesWithHappenings x.clock x.links.opened.items x.used x.ran x.refused.items x.unlisted a.taken → TakesAside x.refused.items x.core z.core x.ran z.ran (woke_events a.taken m)
+    takes l t =
         let P : CoreView → Type 0 = λ c. TakesAside x.refused.items x.core c x.ran z.ran (woke_events a.taken m) in
         let Q : Option ℕ → Type 0 = λ last. TakesAside x.refused.items x.core y.core x.ran y.ran (wake_events last m ++ map loss_of (refused_since a.taken)) in
-        let size : length (map loss_of (refused_since a.taken)) ≡ length x.refused.items + x.unlisted = (let n = map-size (refused_since a.taken) in let c = t.counted in omega arith) in
+        let lost : AreAllBut (IsVacant x.core) x.refused.items (refused_since a.taken) = but-weaker (IsUnkept x.links.opened.items x.used) (IsVacant x.core) (vacant l) x.refused.items (refused_since a.taken) t.since in
         subst P (sym reports.core) (subst (λ n. TakesAside x.refused.items x.core y.core x.ran n (woke_events a.taken m)) (sym reports.ran)
-        (subst Q t.clock (begins.takes (map loss_of (refused_since a.taken)) (λ q. ap (map loss_of) (sym (t.since q))) size (losses-end (refused_since a.taken)))))
+        (subst Q t.clock (begins.takes (refused_since a.taken) lost (sym t.counted))))
 
-    reached : AgreesWithHappenings x.clock x.links.opened.items x.used x.ran x.refused.items x.unlisted a.taken → x.ran < 2 ^ 64 → z.core.quits ≡ false → z.ran ≡ min (x.ran + length (woke_events a.taken m)) (2 ^ 64 - 1)
-    reached t count on =
-        let r = (takes t).takes.reaches in
-        let e = ap length (r.front ∙ ap (λ xs. (takes t).takes.events ++ xs) (r.whole on) ∙ append-nil (takes t).takes.events) in
+    reached : AgreesOnLinks x.links.opened.items x.core x.used x.listening x.refused.items a → AgreesWithHappenings x.clock x.links.opened.items x.used x.ran x.refused.items x.unlisted a.taken → x.ran < 2 ^ 64 → z.core.quits ≡ false → z.ran ≡ min (x.ran + length (woke_events a.taken m)) (2 ^ 64 - 1)
+    reached l t count on =
+        let r = (takes l t).takes.reaches in
+        let e = ap length (r.front ∙ ap (λ xs. (takes l t).takes.events ++ xs) (r.whole on) ∙ append-nil (takes l t).takes.events) in
         let c = r.counts count in
         omega arith
 
-    told : AgreesWithHappenings x.clock x.links.opened.items x.used x.ran x.refused.items x.unlisted a.taken → x.ran < 2 ^ 64 → z.core.quits ≡ false → AgreesWithHappenings z.clock z.links.opened.items z.used z.ran z.refused.items z.unlisted (a.taken ++ Woke m ∷ [])
-    told t count on =
+    told : AgreesOnLinks x.links.opened.items x.core x.used x.listening x.refused.items a → AgreesWithHappenings x.clock x.links.opened.items x.used x.ran x.refused.items x.unlisted a.taken → x.ran < 2 ^ 64 → z.core.quits ≡ false → AgreesWithHappenings z.clock z.links.opened.items z.used z.ran z.refused.items z.unlisted (a.taken ++ Woke m ∷ [])
+    told l t count on =
         rw (reports.clock, begins.clock, reports.used, begins.used, none, none')
         (For-states (clock_from x.clock (Woke m ∷ [])) x.links.opened.items z.links.opened.items x.used z.ran [] 0 (a.taken ++ Woke m ∷ []) (subst (λ o. SameKinds o z.links.opened.items) begins.opened reports.kinds) (missing-as x.links.opened.items z.links.opened.items numbers)
-        (For-woke x.clock x.links.opened.items x.used x.ran z.ran m x.refused.items x.unlisted a.taken (reached t count on) t))
+        (For-woke x.clock x.links.opened.items x.used x.ran z.ran m x.refused.items x.unlisted a.taken (reached l t count on) t))
 
-    hears : (history : List Heard) → happenings history ≡ a.taken → AgreesWithHappenings x.clock x.links.opened.items x.used x.ran x.refused.items x.unlisted a.taken → AgreesWithHeard x.links.opened.items x.used x.ran a.taken history → z.core.quits ≡ false
+    hears : (history : List Heard) → happenings history ≡ a.taken → AgreesOnLinks x.links.opened.items x.core x.used x.listening x.refused.items a → AgreesWithHappenings x.clock x.links.opened.items x.used x.ran x.refused.items x.unlisted a.taken → AgreesWithHeard x.links.opened.items x.used x.ran a.taken history → z.core.quits ≡ false
         → AgreesWithHeard z.links.opened.items z.used z.ran (a.taken ++ Woke m ∷ []) (history ++ Happened (Woke m) ∷ [])
-    hears history spells t h on =
+    hears history spells l t h on =
         rw (reports.used, begins.used)
         (Hears-states x.links.opened.items z.links.opened.items x.used z.ran (a.taken ++ Woke m ∷ []) (history ++ Happened (Woke m) ∷ []) (rw begins.opened at reports.tails) (readings-kinds x.links.opened.items z.links.opened.items (subst (λ o. SameKinds o z.links.opened.items) begins.opened reports.kinds))
-        (Hears-quiet x.links.opened.items x.used x.used x.ran z.ran a.taken history (Happened (Woke m)) spells (quiet-happened (Woke m) (λ k. refl) (λ k. refl)) (omega arith) (reached t (let e = h.events in omega arith) on ∙ ap (λ taken. min (x.ran + length (woke_events taken m)) (2 ^ 64 - 1)) (sym spells)) h))
+        (Hears-quiet x.links.opened.items x.used x.used x.ran z.ran a.taken history (Happened (Woke m)) spells (quiet-happened (Woke m) (λ k. refl) (λ k. refl)) (omega arith) (reached l t (let e = h.events in omega arith) on ∙ ap (λ taken. min (x.ran + length (woke_events taken m)) (2 ^ 64 - 1)) (sym spells)) h))
 
     -- where no event was reached, none came to be wanted
     began : AgreesWithSockets x a → z.ran ≡ 0 → z.core.servers.wanted ≡ []
     began s stopped = ap (λ (c : CoreView). c.servers.wanted) reports.core ∙ begins.idle calm.asked (sym reports.ran ∙ stopped)
 
-    advances : IsTrue b.tells → AgreesWithSockets x a → z.core.starved ≡ x.core.starved → x.core.starved < 2 ^ 64 - 1 → (rows : Beside) → WereTold x.core rows → Agrees rows.oracle z.core.verdicts → (t : AgreesWithHappenings x.clock x.links.opened.items x.used x.ran x.refused.items x.unlisted a.taken) → MomentAdvances rows (moment x a) (moment z b) (closes_asked z.core) (takes t).takes.events
+    advances : IsTrue b.tells → (s : AgreesWithSockets x a) → z.core.starved ≡ x.core.starved → x.core.starved < 2 ^ 64 - 1 → (rows : Beside) → WereTold x.core rows → Agrees rows.oracle z.core.verdicts → (t : AgreesWithHappenings x.clock x.links.opened.items x.used x.ran x.refused.items x.unlisted a.taken) → MomentAdvances rows (moment x a) (moment z b) (closes_asked z.core) (takes s.among t).takes.events
     advances t s same below rows were agrees told' =
-        let events = (takes told').takes.events in
-        let did = (takes told').takes.takes.does same below s.among.once rows were agrees in
+        let events = (takes s.among told').takes.events in
+        let did = (takes s.among told').takes.takes.does same below s.among.once rows were agrees in
         let acts = (run (state_of x.core rows) events).acts in
         let later = among s.among in
-        let closes = (takes told').closes (λ link e. s.among.spared link e) same below s.among.once rows were agrees in
+        let closes = (takes s.among told').closes (λ link e. s.among.spared link e) same below s.among.once rows were agrees in
         MomentAdvances-takes rows (moment x a) (moment z b) (closes_asked z.core) events did keeps.links (reports.used ∙ begins.used) keeps.servers later.seats (clients-above x.links.opened.items x.core x.used x.listening x.refused.items a s.among)
         (λ k low. party-used k x.links.opened.items z.links.opened.items x.core z.core x.used x.listening x.refused.items a low keeps.links keeps.servers s.among) s.among.alone later.alone (sent t) (choked t)
         (rw (asked t, did.servers.wanted) (ap (λ xs. a.asked ++ xs) (asks_of-append x.core.servers.wanted (wanted_in (outs_of acts))) ∙ sym (append_assoc a.asked (asks_of x.core.servers.wanted) (asks_in acts))))
-        (Woke m ∷ []) (call.taken t) (woke-closes rows x.core z.core events calm keeps.links s.among.once s.among.limited s.among.order did closes) ((takes told').takes.takes.stops same below s.among.once rows were agrees)
+        (Woke m ∷ []) (call.taken t) (woke-closes rows x.core z.core events calm keeps.links s.among.once s.among.limited s.among.order did closes) ((takes s.among told').takes.takes.stops same below s.among.once rows were agrees)
 
 -- ---- what follows of it
 

@@ -2,18 +2,20 @@
 use Rattle.std.specs.Prelude.{◌≡◌, ◌⊎◌, ◌++◌, ℕ, Bool, true, false, List, [], ◌∷◌, Option, Some, None}
 use Rattle.wc_text.specs.declared.names.Cause.{Cause}
 use Rattle.wc_text.specs.declared.names.Cause.TheVariants.{Ended, Failed, BadSocket, NoMemory}
+use Rattle.wc_text.specs.declared.names.Cause.TheVariants.{Surplus}
 use Rattle.wc_outside.specs.Keyed.{at_key, without}
 use Rattle.wc_board.specs.Connections.{connection_link, new_connection, is_open_at}
 use Rattle.wc_servers.specs.Seats.{used_up, forgotten}
 use Rattle.wc_core.specs.BoardSteps.{board_of, StepsBy}
-use Rattle.wc_core.specs.Contained.{Contains, Counts, lost_number}
+use Rattle.wc_core.specs.Contained.{Contains, Counts, lost_number, starved_by}
 use Rattle.wc_core.specs.CoreView.{CoreView}
 use Rattle.wc_core.specs.Events.{Event, Start, Tick, Arrives, Line, Stands, Ends, Fails, Breaks}
 use Rattle.wc_core.specs.Events.{ListenFails}
 use Rattle.wc_core.specs.Served.{state_of, Does}
 use Rattle.wc_core.specs.Starts.{Starts}
-use Rattle.wc_core.specs.State.{State, Beside, Stepped}
+use Rattle.wc_core.specs.State.{State, Beside, Closes, Stepped}
 use Rattle.wc_core.specs.Step.{step, link_loss_step, client_link}
+use Rattle.wc_turns.specs.Parties.{has_party}
 
 -- ---- one event
 
@@ -35,13 +37,28 @@ pub record LosesWhole (link : ℕ) (cause : Cause) (old new : CoreView) : Type 0
       old new
   pub drops : StepsBy (Some link) (board_of old) (board_of new)
 
+abbrev pub IsRefusal : Cause → Type 0
+IsRefusal cause = (cause ≡ Surplus) ⊎ (cause ≡ NoMemory)
+
+-- A client that comes is refused: it is one too many, where the event has that, or there is no memory
+-- for it or for its link, which is counted once.
+pub record RefusesWhole (link : ℕ) (nonce : List ℕ) (old new : CoreView) : Type 0 where
+  pub cause : Cause
+  pub fits : IsRefusal cause
+  pub core : new ≡ record old {
+    servers = used_up link old.servers;
+    starved = starved_by cause old.starved;
+  }
+  pub closes : (told : Beside) → ((step (state_of old told) (Arrives link nonce)).acts
+      ≡ Closes link cause ∷ []) ⊎ (cause ≡ NoMemory)
+
 -- a client comes, or is refused
 abbrev pub ComesOrNot : ℕ → List ℕ → CoreView → CoreView → Type 0
 ComesOrNot link nonce old new = (new ≡ record old {
   connections = old.connections
       ++ new_connection old.options (record { 0 = link }) nonce ∷ [];
   servers = used_up link old.servers;
-}) ⊎ (new ≡ record old { servers = used_up link old.servers; starved = new.starved })
+}) ⊎ RefusesWhole link nonce old new
 
 abbrev pub TakesEvent : Event → CoreView → CoreView → Type 0
 TakesEvent (Start moment) old new = Does old new (λ state. step state (Start moment))
@@ -58,8 +75,14 @@ TakesEvent ListenFails old new = new ≡ old
 
 -- ---- what the loop does besides
 
+-- there was no memory for what goes over a link: the client or the server that is at it is lost
+pub record StarvesWhole (link : ℕ) (old new : CoreView) : Type 0 where
+  pub there : has_party link old ≡ true
+  pub loses : LosesWhole link NoMemory old new
+
 -- there was no memory for a connection: its server is lost and forgotten
 pub record DropsWhole (link : ℕ) (old new : CoreView) : Type 0 where
+  pub there : has_party link old ≡ true
   pub lost : CoreView
   pub loses : LosesWhole link NoMemory old lost
   pub gone : is_open_at (at_key connection_link link lost.connections) ≡ false
@@ -69,20 +92,17 @@ pub record DropsWhole (link : ℕ) (old new : CoreView) : Type 0 where
   }
 
 -- bytes are sent, a link that was lost is forgotten, a connection is asked for, or a text is written:
--- the state stays
+-- the state stays, and nobody comes to a link
 pub record KeepsState (old new : CoreView) : Type 0 where
   pub state : (told : Beside) → state_of new told ≡ state_of old told
+  pub nobody : (link : ℕ) → has_party link old ≡ false → has_party link new ≡ false
   pub pending : new.pending ≡ old.pending
   pub starved : new.starved ≡ old.starved
   pub quits : new.quits ≡ old.quits
 
--- a link is lost without an event where it stood as refused, or for want of memory
-abbrev pub IsUnheard : Cause → Type 0
-IsUnheard cause = (cause ≡ Failed) ⊎ (cause ≡ NoMemory)
-
+-- A link is lost without an event for want of memory alone, and only where somebody is at it.
 pub data Besides (old new : CoreView) : Type 0 where
-  Loses : (link : ℕ) → (cause : Cause) → IsUnheard cause → LosesWhole link cause old new →
-      Besides old new
+  Starves : (link : ℕ) → StarvesWhole link old new → Besides old new
   Drops : (link : ℕ) → DropsWhole link old new → Besides old new
   Keeps : KeepsState old new → Besides old new
 
@@ -131,7 +151,7 @@ AreTaken (event ∷ events) (one ∷ all) = ((event ≡ one) × AreTaken events 
     ⊎ ((tells_end one ≡ true) × AreTaken (event ∷ events) all)
 
 -- Of these events each is taken, in order, but for some that tell of an end: it is done whole, or cut
--- short, and nothing else changes the state but losses that no event tells of.
+-- short, and nothing else changes the state but losses for want of memory.
 pub record Goes (all : List Event) (old new : CoreView) : Type 0 where
   pub legs : List Leg
   pub through : GoesThrough legs old new

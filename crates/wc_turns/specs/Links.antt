@@ -1,6 +1,6 @@
 -- The links that are open, and the connections that are to be.
 use Rattle.std.specs.Prelude.{ℕ, Bool, true, false, List, [], ◌∷◌, ◌++◌, Option, Some, None}
-use Rattle.std.specs.Prelude.{◌≡◌, is_some, not}
+use Rattle.std.specs.Prelude.{◌≡◌, ◌≤◌, ◌⊎◌, is_some, not}
 use Rattle.wc_outside.specs.Keyed.{at_key, put_at}
 use Rattle.wc_framing.specs.declared.framing.Framing.{Framing}
 use Rattle.wc_framing.specs.Framing.{is_socket, silent}
@@ -66,6 +66,18 @@ kind_of (Some state) = Some (record {
   ended = state.ended;
 })
 kind_of None = None
+
+-- the number of a link is used, and it has no record
+abbrev pub IsUnkept : List LinkState → ℕ → ℕ → Type 0
+IsUnkept states used link = (link ≤ used) × (at_key link_number link states ≡ None)
+
+-- these links are all of those, in order, but for some of which this is so
+abbrev pub AreAllBut : (ℕ → Type 0) → List LinkId → List LinkId → Type 0
+AreAllBut P [] [] = Unit {0}
+AreAllBut P (link ∷ links) [] = ⊥
+AreAllBut P [] (one ∷ all) = P one.0 × AreAllBut P [] all
+AreAllBut P (link ∷ links) (one ∷ all) = ((link ≡ one) × AreAllBut P links all)
+    ⊎ (P one.0 × AreAllBut P (link ∷ links) all)
 
 -- a link is kept as a connection that does not stand yet
 abbrev pub IsConnecting : ℕ → List LinkState → Type 0

@@ -1,6 +1,6 @@
 -- Who is at a link: a client, or a server.
-use Rattle.std.specs.Prelude.{ℕ, ◌+◌, ◌≡◌, Bool, ◌||◌, ◌==◌, List, [], ◌∷◌, ◌++◌, map, length}
-use Rattle.std.specs.Prelude.{is_some, if◌then◌else◌}
+use Rattle.std.specs.Prelude.{ℕ, ◌+◌, ◌≡◌, ◌≤◌, Bool, false, ◌||◌, ◌==◌, List, [], ◌∷◌, ◌++◌, map}
+use Rattle.std.specs.Prelude.{length, is_some, if◌then◌else◌}
 use Rattle.std.specs.List.{list_any}
 use Rattle.wc_text.specs.declared.names.LinkId.{LinkId}
 use Rattle.wc_outside.specs.Keyed.{at_key}
@@ -23,6 +23,10 @@ use Rattle.wc_turns.specs.Run.{close_of_parting, leaving_closes}
 abbrev pub has_party : ℕ → CoreView → Bool
 has_party link core = is_some (at_key connection_link link core.connections)
     || is_some (at_key seat_link link core.servers.seats)
+
+-- the number of a link is used, and nobody is at it
+abbrev pub IsVacant : CoreView → ℕ → Type 0
+IsVacant core link = (link ≤ core.servers.used) × (has_party link core ≡ false)
 
 -- how many clients and servers there are
 abbrev pub party_count : CoreView → ℕ

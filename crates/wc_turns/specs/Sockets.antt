@@ -31,6 +31,7 @@ use Rattle.wc_turns.specs.Events.{read_events, end_events, text_of_read}
 use Rattle.wc_turns.specs.Heard.{SocketEnd, GoesOn, Closes, Broken, NotPut}
 use Rattle.wc_turns.specs.Lines.{rest}
 use Rattle.wc_turns.specs.Links.{link_number, changed_at, frames_of, gone_frames}
+use Rattle.wc_turns.specs.Parties.{has_party}
 use Rattle.wc_turns.specs.Served.{MayTake, LeavesAtLine, LeavesAtRead}
 use Rattle.wc_turns.specs.Steps.{LosesLink}
 use Rattle.wc_turns.specs.Tails.{IsTail}
@@ -114,11 +115,12 @@ pub record ServesPiece (link : ℕ) (piece : List ℕ) (then : WsThen) (old new 
       FedThen (Some then) now.quits (bytes ++ piece) (read ++ serves.text) new
 
 -- the client of a WebSocket link begins to leave, if it was not leaving, and nothing more is read of
--- the link; that is an event, but for want of memory
+-- the link; that is an event, but for want of memory, which counts where it is there
 pub record ClosesSocket (cause : Cause) (old new : LinkState) (before now : CoreView)
     (ran ran' : ℕ) : Type 0 where
   pub state : new ≡ record old { ended = true }
-  pub takes : MayTake before now ran ran' (end_events old.link.0 (end_for cause))
+  pub takes : has_party old.link.0 before ≡ true →
+      MayTake before now ran ran' (end_events old.link.0 (end_for cause))
   pub loses : LosesLink old.link.0 cause before now
   pub idle : ran' ≡ 0 → ran ≡ 0
   pub wanted : now.servers.wanted ≡ before.servers.wanted
@@ -147,8 +149,8 @@ pub record ServesFrames (bytes : List ℕ) (old new : LinkState) (before now : C
       EndsAs end (all ++ bytes) (read ++ text)
   pub tails : now.quits ≡ false → (line : List ℕ) → IsTail line old.tail →
       IsTail (rest line text) new.tail
-  pub takes : (line : List ℕ) → IsTail line old.tail → MayTake before now ran ran'
-      (read_events old.link.0 line text ++ end_events old.link.0 end)
+  pub takes : (line : List ℕ) → IsTail line old.tail → has_party old.link.0 before ≡ true →
+      MayTake before now ran ran' (read_events old.link.0 line text ++ end_events old.link.0 end)
   pub causes : LeavesAtRead (is_socket old.framing) old.link.0 before now
   pub idle : ran' ≡ 0 → (ran ≡ 0) × (now.servers.wanted ≡ before.servers.wanted)
   -- what is no WebSocket comes to no text
@@ -166,7 +168,7 @@ pub record ServesOpened (bytes : List ℕ) (old new : LinkState) (before now : C
       UnframedAs (old.tail.line ++ bytes) text new.framing
   pub ends : FedAs [] [] old.framing → EndsAs end (old.tail.line ++ bytes) text
   pub tails : now.quits ≡ false → IsTail (rest [] text) new.tail
-  pub takes : MayTake before now ran ran'
+  pub takes : has_party old.link.0 before ≡ true → MayTake before now ran ran'
       (read_events old.link.0 [] text ++ end_events old.link.0 end)
   pub causes : LeavesAtRead (is_socket old.framing) old.link.0 before now
   pub idle : ran' ≡ 0 → (ran ≡ 0) × (now.servers.wanted ≡ before.servers.wanted)
@@ -181,7 +183,8 @@ pub record ReadServed (socket : Bool) (all read bytes text : List ℕ) (end : So
   pub ends : EndsAs end (all ++ bytes) (read ++ text)
   pub tails : now.quits ≡ false →
       IsTail (rest [] (text_of_read socket (all ++ bytes) (read ++ text))) new.tail
-  pub takes : MayTake before now ran ran' (read_events new.link.0
+  pub takes : has_party new.link.0 before ≡ true →
+      MayTake before now ran ran' (read_events new.link.0
       (rest [] (text_of_read socket all read)) (text_of_read socket bytes text)
       ++ end_events new.link.0 end)
 

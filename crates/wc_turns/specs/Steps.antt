@@ -5,7 +5,7 @@ use Rattle.std.specs.Prelude.{length, List, [], ◌∷◌, map, not, is_some, If
 use Rattle.std.specs.List.{list_any}
 use Rattle.wc_text.specs.declared.names.LinkId.{LinkId}
 use Rattle.wc_text.specs.declared.names.Cause.{Cause}
-use Rattle.wc_text.specs.declared.names.Cause.TheVariants.{NoMemory, Surplus}
+use Rattle.wc_text.specs.declared.names.Cause.TheVariants.{NoMemory}
 use Rattle.wc_core.specs.Events.{Arrives}
 use Rattle.wc_core.specs.Step.{step, run}
 use Rattle.wc_core.specs.Changing.{reach_step}
@@ -16,9 +16,10 @@ use Rattle.wc_core.specs.Events.{Event}
 use Rattle.wc_board.specs.Connections.{connection_link, new_connection, leaving_on, is_open_at}
 use Rattle.wc_board.specs.Served.{StaysOrStarves}
 use Rattle.wc_core.specs.Served.{AdmitsUnlessStarved}
-use Rattle.wc_core.specs.State.{Beside}
+use Rattle.wc_core.specs.State.{Beside, Closes}
+use Rattle.wc_core.specs.Contained.{starved_by}
 use Rattle.wc_turns.specs.Contained.{HasStarved}
-use Rattle.wc_turns.specs.Parties.{has_party, IsCalm, is_refused}
+use Rattle.wc_turns.specs.Parties.{has_party, IsCalm, is_refused, IsVacant}
 use Rattle.wc_turns.specs.Served.{closed_by, MayRun, MayTake}
 use Rattle.wc_servers.specs.Seats.{used_up, forgotten}
 use Rattle.wc_core.specs.ServersKept.{LosesServer}
@@ -31,9 +32,10 @@ use Rattle.wc_turns.specs.declared.headless.Headless.{Headless}
 use Rattle.wc_outside.specs.Keyed.{at_key, without}
 use Rattle.wc_turns.specs.Events.{clock_from, wake_events, loss_of}
 use Rattle.wc_turns.specs.Links.{link_number, is_undrained, is_blocked, kind_of, new_state}
+use Rattle.wc_turns.specs.Links.{AreAllBut}
 use Rattle.wc_turns.specs.Tails.{IsTail}
 use Rattle.wc_eval.specs.Verdicts.{Agrees}
-use Rattle.wc_turns.specs.Goes.{Goes, LosesWhole, AreEnds}
+use Rattle.wc_turns.specs.Goes.{LosesWhole, IsRefusal}
 
 -- what comes after the last LF of each link is as before
 abbrev pub SameTails : List LinkState → List LinkState → Type 0
@@ -55,8 +57,8 @@ pub record LinkComes (x y : Headless) (link : LinkId) : Type 0 where
   pub ran : y.ran ≡ min (x.ran + 1) (2 ^ 64 - 1)
   pub refused : y.refused ≡ x.refused
   pub unlisted : y.unlisted ≡ x.unlisted
-  pub quits : has_party link.0 x.core ≡ false → y.core.quits ≡ x.core.quits
-  pub calm : has_party link.0 x.core ≡ false → IsCalm x.core → IsCalm y.core
+  pub quits : y.core.quits ≡ x.core.quits
+  pub calm : IsCalm x.core → IsCalm y.core
 
 -- it has a client, and its link has room for a line
 pub record TakesArrival (x y : Headless) (link : LinkId) (nonce : List ℕ) : Type 0 where
@@ -71,8 +73,10 @@ pub record TakesArrival (x y : Headless) (link : LinkId) (nonce : List ℕ) : Ty
       AdmitsUnlessStarved told link.0 x.core y.core None
       (step (state_of x.core told) (Arrives link.0 nonce))
 
-abbrev pub IsRefusal : Cause → Type 0
-IsRefusal cause = (cause ≡ Surplus) ⊎ (cause ≡ NoMemory)
+-- why an arrival is refused, which is not listed where there was no memory for that
+abbrev pub refused_for : Option Cause → Cause
+refused_for None = NoMemory
+refused_for (Some cause) = cause
 
 -- it has no client, and its link is to be closed at once: it is listed with its cause, unless there
 -- was no memory for that
@@ -83,10 +87,14 @@ pub record RefusesArrival (x y : Headless) (link : LinkId) (nonce : List ℕ) : 
       ≡ x.links.opened.items
   pub closed : at_key link_number link.0 x.links.opened.items ≡ None → y.links.closed.items
       ≡ x.links.closed.items ++ closed_by link cause
-  pub core : has_party link.0 x.core ≡ false → y.core ≡ record x.core {
+  pub core : y.core ≡ record x.core {
     servers = used_up link.0 x.core.servers;
-    starved = y.core.starved;
+    starved = starved_by (refused_for cause) x.core.starved;
   }
+  -- it is one too many only where the event has that
+  pub closes : has_party link.0 x.core ≡ false → (told : Beside)
+      → ((step (state_of x.core told) (Arrives link.0 nonce)).acts
+      ≡ Closes link.0 (refused_for cause) ∷ []) ⊎ (refused_for cause ≡ NoMemory)
   pub rises : x.core.starved ≤ y.core.starved
   pub starves : cause ≡ None → HasStarved x.core.starved y.core.starved
   pub step : y.core.starved ≡ x.core.starved → x.core.starved < 2 ^ 64 - 1 →
@@ -177,13 +185,14 @@ pub record TakesAside (aside : List LinkId) (x y : CoreView) (ran ran' : ℕ) (a
 
 -- A turn begins: no link is closed in it yet, the core takes the event of the wait and then the
 -- losses of the connections that were refused before, and the clock shows the moment. Clients may
--- begin to leave for want of memory. Where some of these connections are not listed, want of memory
--- is counted, as that of a link whose number is never used.
+-- begin to leave for want of memory. Some of these connections may not be listed: nobody is at them,
+-- so that their losses are events that change nothing.
 pub record BeginsTurn (x y : Headless) (moment : ℕ) : Type 0 where
   pub keeps : KeepsClients x.core y.core
-  pub takes : (lost : List Event) → (x.unlisted ≡ 0 → lost ≡ map loss_of x.refused.items)
-      → length lost ≡ length x.refused.items + x.unlisted → AreEnds lost →
-      TakesAside x.refused.items x.core y.core x.ran y.ran (wake_events x.clock moment ++ lost)
+  pub takes : (lost : List LinkId) → AreAllBut (IsVacant x.core) x.refused.items lost
+      → length lost ≡ length x.refused.items + x.unlisted →
+      TakesAside x.refused.items x.core y.core x.ran y.ran
+      (wake_events x.clock moment ++ map loss_of lost)
   pub causes : Distinct (links_of x.core) → (link : ℕ) → is_refused link x.refused.items ≡ false →
       StaysOrStarves (leaving_on link x.core.connections) (leaving_on link y.core.connections)
   pub used : y.used ≡ x.used
@@ -240,9 +249,7 @@ pub record DropsLink (x y : Headless) (wanted : Wanted) (refused : Bool) : Type 
   pub closed : y.links.closed.items ≡ x.links.closed.items
   pub listed : List LinkId
   pub lists : y.refused.items ≡ x.refused.items ++ listed
-  pub all : y.unlisted ≡ 0 → (x.unlisted ≡ 0) × (listed ≡ refused_by refused wanted.link)
-  pub within : (link : ℕ) → is_refused link listed ≡ true →
-      is_refused link (refused_by refused wanted.link) ≡ true
+  pub fits : (listed ≡ refused_by refused wanted.link) ⊎ (listed ≡ [])
   pub counted : x.unlisted < 2 ^ 64 - 1 → length listed + y.unlisted
       ≡ length (refused_by refused wanted.link) + x.unlisted
 
@@ -269,10 +276,13 @@ abbrev pub TakesWanted : Bool → Headless → Headless → Wanted → Bool → 
 TakesWanted true x y wanted refused = DropsLink x y wanted refused
 TakesWanted false x y wanted refused = TakesLink x y wanted refused
 
--- these connections are lost, one after another
+-- These connections are lost, one after another. The loss of others, at which nobody is, would change
+-- nothing, wherever it came.
 pub record LosesEach (links : List LinkId) (x y : CoreView) : Type 0 where
-  pub runs : MayRun x y (map loss_of links)
-  pub goes : Goes [] x y
+  pub keeps : KeepsClients x y
+  pub runs : (all : List LinkId) → AreAllBut (IsVacant x) links all →
+      MayRun x y (map loss_of all)
+  pub none : links ≡ [] → y ≡ x
   pub quits : y.quits ≡ x.quits
   pub wanted : y.servers.wanted ≡ x.servers.wanted
   pub causes : Distinct (links_of x) → (link : ℕ) → is_refused link links ≡ false →
@@ -280,29 +290,20 @@ pub record LosesEach (links : List LinkId) (x y : CoreView) : Type 0 where
   -- where none of them has a client, none is closed
   pub closes : ((link : ℕ) → is_refused link links ≡ true → at_key connection_link link x.connections
       ≡ None) → y.starved ≡ x.starved → x.starved < 2 ^ 64 - 1 → Distinct (links_of x) → (told : Beside)
-      → WereTold x told → Agrees told.oracle y.verdicts → (link : ℕ) →
-      close_of link (run (state_of x told) (map loss_of links)).acts ≡ None
-
--- so many more were lost that are not listed: want of memory is counted where there are any
-pub record MissesUnlisted (unlisted : ℕ) (x y : CoreView) : Type 0 where
-  pub keeps : KeepsClients x y
-  pub goes : Goes [] x y
-  pub quits : y.quits ≡ x.quits
-  pub wanted : y.servers.wanted ≡ x.servers.wanted
-  pub none : unlisted ≡ 0 → y ≡ x
-  pub starves : 1 ≤ unlisted → HasStarved x.starved y.starved
-  pub causes : Distinct (links_of x) → (link : ℕ) →
-      StaysOrStarves (leaving_on link x.connections) (leaving_on link y.connections)
+      → WereTold x told → Agrees told.oracle y.verdicts → (all : List LinkId) →
+      AreAllBut (IsVacant x) links all → (link : ℕ) →
+      close_of link (run (state_of x told) (map loss_of all)).acts ≡ None
 
 -- The connections that stood as refused are lost, unless `/quit` was run; none stands so after that.
+-- Those that are not listed have nobody at them: their losses are events that change nothing.
 pub record LosesRefused (x y : Headless) : Type 0 where
   pub keeps : KeepsClients x.core y.core
   pub quits : y.core.quits ≡ x.core.quits
   pub wanted : y.core.servers.wanted ≡ x.core.servers.wanted
-  pub starves : 1 ≤ x.unlisted → HasStarved x.core.starved y.core.starved
-  pub takes : (all : List Event) → (x.unlisted ≡ 0 → all ≡ map loss_of x.refused.items)
-      → length all ≡ length x.refused.items + x.unlisted → AreEnds all →
-      TakesAside x.refused.items x.core y.core x.ran y.ran all
+  pub none : x.refused.items ≡ [] → y.core ≡ x.core
+  pub takes : (lost : List LinkId) → AreAllBut (IsVacant x.core) x.refused.items lost
+      → length lost ≡ length x.refused.items + x.unlisted →
+      TakesAside x.refused.items x.core y.core x.ran y.ran (map loss_of lost)
   pub causes : Distinct (links_of x.core) → (link : ℕ) → is_refused link x.refused.items ≡ false →
       StaysOrStarves (leaving_on link x.core.connections) (leaving_on link y.core.connections)
   pub counts : y.ran ≡ 0 → x.ran ≡ 0

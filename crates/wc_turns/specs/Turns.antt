@@ -48,7 +48,7 @@ use Rattle.wc_turns.specs.Hands.{Point, Delivers}
 use Rattle.wc_turns.specs.Heard.{Heard, Happened, Unframed, NotPut, happened, happenings}
 use Rattle.wc_turns.specs.Heard.{SocketEnd, GoesOn, Closes, Broken}
 use Rattle.wc_turns.specs.Links.{link_number, is_undrained, is_blocked, is_connecting, is_there}
-use Rattle.wc_turns.specs.Links.{frames_of, is_socket_at}
+use Rattle.wc_turns.specs.Links.{frames_of, is_socket_at, IsUnkept, AreAllBut}
 use Rattle.wc_turns.specs.Run.{closings, EndsAtQuit}
 use Rattle.wc_turns.specs.Parties.{has_party, unsent_on, owed_to, asks_of, asks_in, is_refused}
 use Rattle.wc_turns.specs.Parties.{closes_asked}
@@ -98,7 +98,7 @@ EndsEach before [] = Unit {0}
 EndsEach before (heard ∷ more) = EndsFor before heard × EndsEach (before ++ heard ∷ []) more
 
 -- what the loop keeps is what the happenings make of it: the clock, which connections stand, and which
--- ones were refused since the last wake, of which some are not listed
+-- ones were refused since the last wake, of which some are not listed, that have no record either
 pub record AgreesWithHappenings (clocked : Option ℕ) (states : List LinkState) (used ran : ℕ)
     (refused : List LinkId) (unlisted : ℕ) (taken : List Happening) : Type 0 where
   pub clock : clocked ≡ clock taken
@@ -111,7 +111,7 @@ pub record AgreesWithHappenings (clocked : Option ℕ) (states : List LinkState)
       (λ state. state.connecting ≡ (is_some state.server && not (has_stood link taken)))
   pub unread : (link : ℕ) → is_connecting (at_key link_number link states) ≡ true →
       flat_map (bytes_on link) taken ≡ []
-  pub since : unlisted ≡ 0 → refused ≡ refused_since taken
+  pub since : AreAllBut (IsUnkept states used) refused (refused_since taken)
   pub counted : length refused + unlisted ≡ length (refused_since taken)
   pub within : length refused + unlisted ≤ used
   -- before the start, which is the first event, nothing happened, and no link is there
@@ -133,6 +133,11 @@ pub record AgreesWithHeard (states : List LinkState) (used ran : ℕ) (taken : L
   pub uncome : (link : ℕ) → used < link → has_come link taken ≡ false
   pub unframed : (link : ℕ) → used < link → frames_text link history ≡ []
   pub events : ran ≡ min (length (whole history)) (2 ^ 64 - 1)
+
+-- somebody is at each link that is kept
+abbrev pub HaveParties : List LinkState → CoreView → Type 0
+HaveParties states core = (link : ℕ) → is_some (at_key link_number link states) ≡ true →
+    has_party link core ≡ true
 
 -- The links that the loop keeps are those of these sockets, and connections that were refused. Each
 -- has a client or a server, also one that is leaving, and so has each connection that is still to be
@@ -494,12 +499,13 @@ pub record TakesHappening (old new : Headless) (heard : Heard) : Type 0 where
       new.unlisted (taken ++ happened heard)
   pub hears : (taken : List Happening) (history : List Heard) → happenings history ≡ taken →
       ((link : ℕ) → old.used < link → at_key link_number link old.links.opened.items ≡ None) →
-      new.core.quits ≡ false
+      new.core.quits ≡ false → HaveParties old.links.opened.items old.core
       → AgreesWithHeard old.links.opened.items old.used old.ran taken history →
       AgreesWithHeard new.links.opened.items new.used new.ran (taken ++ happened heard)
       (history ++ heard ∷ [])
   pub takes : (taken : List Happening) (history : List Heard) → happenings history ≡ taken →
-      AgreesWithHeard old.links.opened.items old.used old.ran taken history
+      HaveParties old.links.opened.items old.core
+      → AgreesWithHeard old.links.opened.items old.used old.ran taken history
       → MayTake old.core new.core old.ran new.ran (events_of history heard)
   pub ends : (taken : List Happening) (history : List Heard) → happenings history ≡ taken →
       AgreesWithHeard old.links.opened.items old.used old.ran taken history → EndsFor history heard

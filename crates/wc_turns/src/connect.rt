@@ -6,7 +6,7 @@ ghost use Rattle.wc_turns.specs.Contained.{KeepsLinks};
 ghost use Rattle.wc_turns.specs.Links.{IsStanding, IsConnecting};
 ghost use Rattle.wc_turns.specs.Parties.{IsCalm};
 ghost use Rattle.wc_turns.specs.Parts.{AsksWanted, HasFailed, ReadsOn, Settles};
-ghost use Rattle.wc_turns.specs.Steps.{LosesEach, MissesUnlisted};
+ghost use Rattle.wc_turns.specs.Steps.{LosesEach};
 ghost use Rattle.wc_turns.specs.Sources.{TakesNothing};
 ghost use Rattle.wc_turns.specs.Turns.{LoopStep, AgreesWithSockets};
 
@@ -16,9 +16,6 @@ use std::mem;
 use wc_core::{Core, Wanted};
 use wc_outside::{Failed, Sockets};
 use wc_text::{Cause, LinkId, Text};
-
-/// The number of no link: it is never used.
-const NO_LINK: LinkId = LinkId(u64::MAX);
 
 impl Headless {
     ghost use Rattle.std.specs.Prelude.{ℕ};
@@ -95,28 +92,19 @@ impl Headless {
     }
 
     /// Serves the loss of the connections that were refused before a wait, unless `/quit` was run.
-    /// One that is not listed has no server any more: its loss is counted, and so is want of memory.
+    /// One that is not listed has no server any more, and its want of memory was counted as that went:
+    /// its loss is an event that changes nothing.
     pub(crate) fn lose_refused(&mut self)
         ensures { LosesRefused self.old self.new }
     {
         let refused = mem::replace(&mut self.refused, Vec::new(self.alloc));
         let unlisted = mem::replace(&mut self.unlisted, 0);
-        miss_unlisted(&mut self.core, unlisted);
         if self.core.quits() {
             return;
         }
         let listed = refused.len() as u64;
         lose_each(&mut self.core, refused.as_slice());
         self.ran = self.ran.saturating_add(listed).saturating_add(unlisted);
-    }
-}
-
-/// Counts want of memory where connections were refused that are not listed.
-fn miss_unlisted(core: &mut Core, unlisted: u64)
-    ensures { MissesUnlisted unlisted core.old core.new }
-{
-    if unlisted > 0 {
-        core.link_gone(NO_LINK, Cause::NoMemory);
     }
 }
 

@@ -1,4 +1,4 @@
-ghost use Rattle.std.specs.Prelude.{◌≡◌, ◌≢◌, ◌⊎◌, ◌+◌, ◌-◌, ◌^◌, ◌<◌, ◌≤◌};
+ghost use Rattle.std.specs.Prelude.{◌≡◌, ◌≢◌, ◌+◌, ◌-◌, ◌^◌};
 ghost use Rattle.std.specs.Prelude.{◌∷◌, [], None, Some, true, false, IfOk, length, map, min, take};
 ghost use Rattle.std.specs.Prelude.{string_bytes};
 ghost use Rattle.std.specs.Option.{option_copied};
@@ -8,10 +8,9 @@ ghost use Rattle.wc_core.specs.Limits.{most_lines};
 ghost use Rattle.wc_core.specs.State.{first_state};
 ghost use Rattle.wc_eval.specs.Verdicts.{Oracle};
 ghost use Rattle.wc_core.specs.LinksSeen.{unsent_in_core};
-ghost use Rattle.wc_servers.specs.Seats.{no_servers, used_up};
+ghost use Rattle.wc_servers.specs.Seats.{no_servers};
 ghost use Rattle.wc_core.specs.Served.{Means};
 ghost use Rattle.wc_turns.specs.Events.{is_tick, wake_events, clock_from};
-ghost use Rattle.wc_turns.specs.Parties.{has_party};
 ghost use Rattle.wc_turns.specs.Links.{link_number, IsStanding};
 ghost use Rattle.wc_turns.specs.Served.{MayRun};
 ghost use Rattle.wc_turns.specs.Steps.{LosesLink, WakesParties};
@@ -53,7 +52,6 @@ fn is_tick(last: u64, moment: u64) -> bool
 }
 
 impl Headless {
-    ghost use Rattle.wc_turns.specs.Contained.{HasStarved};
     ghost use Rattle.wc_turns.specs.Heard.{Happened, NotPut};
     ghost use Rattle.wc_turns.specs.Links.{is_socket_at};
     ghost use Rattle.wc_turns.specs.Served.{LeavesAtRead};
@@ -162,7 +160,7 @@ impl Headless {
             .admit(self.alloc, arrival.link, None, false)
             .is_err()
         {
-            self.starve(arrival);
+            self.core.refuse_link(arrival.link);
             return true;
         }
         match self.core.accepted(arrival) {
@@ -172,22 +170,6 @@ impl Headless {
             }
             None => false,
         }
-    }
-
-    /// Serves an arrival for whose link there is no memory.
-    fn starve(&mut self, arrival: Arrival)
-        ensures rest { self.new ≡ record self.old { core = self.new.core } }
-        ensures starved { HasStarved self.old.core.starved self.new.core.starved }
-        ensures rises { self.old.core.starved ≤ self.new.core.starved }
-        ensures core { has_party arrival.link.0 self.old.core ≡ false → self.new.core
-            ≡ record self.old.core {
-              servers = used_up arrival.link.0 self.old.core.servers;
-              starved = self.new.core.starved;
-            } }
-    {
-        let _refused = self.core.accepted(arrival);
-        self.core.link_gone(arrival.link, Cause::NoMemory);
-        self.core.forget(arrival.link);
     }
 
     /// Keeps a source as one that was reported: it is not drained, and a link is no longer blocked.

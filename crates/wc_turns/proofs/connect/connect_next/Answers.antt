@@ -137,7 +137,7 @@ returns-in-Err-clause-continues g c = refused-by c.link_refused.result c.link_re
         LoopStep-dropped true (Refused w.link ∷ []) (Happened (Refused w.link) ∷ []) x x' c.link_refused.new.self a b w others first same drops s
         (record { told = e.told; taken = λ t. e.taken t ∙ here a.taken; asked = e.asked; counts = e.counts }) refl refl refl refl (λ history. refl) (λ history. (tt, tt))
         e.used (λ k h. e.there k ∙ or-false _ ∙ h) (λ k h. e.undrained k ∙ h) (λ k h. e.blocked k ∙ h) e.listening
-        (λ t h. told-refused x x' c.link_refused.new.self a.taken w drops refl refl refl next (wanted-begun x a w others first s) (connect-low x a w others first s) h)
+        (λ t h. told-refused x x' c.link_refused.new.self a.taken w drops refl refl refl next (s.among.unknown w.link.0 (omega arith)) (wanted-begun x a w others first s) (connect-low x a w others first s) h)
         (λ history spells h. hears-refused x x' c.link_refused.new.self a.taken history w drops next spells h)
     refused-by false takes =
         let x = c.args.headless.now in

@@ -12,7 +12,7 @@ returns c =
     record {
       closes = record {
         state = refl;
-        takes = MayTake-end c.args.cause link c.args.core.now c.link_gone.new.self c.args.ran.now c.count_end.new.ran c.requires.cause c.requires.going n.starves n.counts e.does e.counted (record { does = e.does; contained = e.contained; counted = e.counts; drops = e.drops });
+        takes = λ there. MayTake-end c.args.cause link c.args.core.now c.link_gone.new.self c.args.ran.now c.count_end.new.ran c.requires.cause there c.requires.going n.starves n.counts e.does e.counted (record { does = e.does; contained = e.contained; counted = e.counts; drops = e.drops });
         loses = LosesLink-of c.args.core.now c.link_gone.new.self link c.args.cause e.does e.stays e.gone e.servers (record { does = e.does; contained = e.contained; counted = e.counts; drops = e.drops });
         idle = idle-end c.args.cause c.args.ran.now c.count_end.new.ran c.requires.cause n.starves n.counts;
         wanted = (loses-keeps _ link c.args.cause c.args.core.now.servers c.link_gone.new.self.servers e.servers).wanted;

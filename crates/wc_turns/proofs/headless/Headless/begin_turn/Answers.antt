@@ -19,7 +19,7 @@ returns-clause-begins c =
     let unlisted = ap (λ (h : Headless). h.unlisted) r in
     record {
       keeps = KeepsClients-trans x.core w.core y.core woke.takes.keeps lost.keeps;
-      takes = rw (refused, unlisted) at (aside-after x.core w.core y.core w.refused.items w.unlisted x.ran w.ran y.ran c.args.moment x.clock c.requires.going woke.takes woke.ran lost.keeps lost.quits lost.starves lost.takes);
+      takes = rw (refused, unlisted) at (aside-after x.core w.core y.core w.refused.items w.unlisted x.ran w.ran y.ran c.args.moment x.clock c.requires.going woke.takes woke.ran lost.keeps lost.quits lost.takes);
       causes = λ distinct k out. stays-further _ _ _ (woke.causes.causes distinct k) (lost.causes (subst Distinct (sym woke.takes.keeps.links) distinct) k (rw refused out));
       used = lost.used ∙ ap (λ (h : Headless). h.used) r;
       idle = λ none none'. lost.wanted ∙ ap (λ (v : CoreView). v.servers.wanted) (woke.idle (lost.counts none')) ∙ none;
