@@ -352,6 +352,7 @@ changed-none old board new change stays counts rises =
       counted = starves.counted;
       cut = starves.cut;
       quits = starves.quits;
+      servers = starves.servers;
       holds = λ told were. (let h = starves.holds told (same-told old board.pending (beside_in told) stays.touches were) in record { same = h.same; told = h.told });
     })
 

@@ -2,12 +2,13 @@
 use Rattle.std.proofs.Common.{◌≡◌, ◌≢◌, ℕ, Bool, true, false, cond, ◌||◌, inl, inr, Option, None, ap, sym, subst, ◌∙◌, arith, List, ◌++◌}
 use Rattle.wc_text.specs.declared.names.Cause.{Cause}
 use Rattle.wc_core.specs.CoreView.{CoreView}
-use Rattle.wc_core.specs.State.{State, beside, Stepped, has_end, Act}
+use Rattle.wc_core.specs.State.{State, beside, Stage, Stepped, has_end, Act, outs_of}
+use Rattle.wc_core.specs.Changing.{way_after}
 use Rattle.wc_core.specs.Step.{then_does}
 use Rattle.wc_board.specs.Connections.{leaving_on}
 use Rattle.wc_board.specs.Served.{StaysOrStarves}
 use Rattle.wc_core.specs.Served.{state_of, or_else, close_of, LeavesBy, Follows}
-use Rattle.wc_core.specs.Contained.{Rest, rest_of, beside_in, state_with, IsOn, IsDone, IsContained, RunsAt, Runs}
+use Rattle.wc_core.specs.Contained.{Rest, rest_of, beside_in, state_with, first_stage, IsOn, IsDone, IsContained, RunsAt, Runs}
 use Rattle.wc_core.proofs.ChangeCloses.{then-closes}
 use Rattle.wc_core.proofs.CountLemmas.{counts-stay}
 use Rattle.wc_core.proofs.DidLemmas.{ClosesLater, or_else-none, has_end-append}
@@ -35,7 +36,7 @@ pub ends-then : (acts more : List Act) → has_end acts ≡ true → has_end (ac
 ends-then acts more e = has_end-append acts more ∙ ap (λ t. t || has_end more) e
 
 -- a step that closes no one and was cut short, and one that goes on after it
-pub RunsAt-cut : (told : Rest) (a b : CoreView) (s t : Stepped) → ((j : ℕ) → close_of j s.acts ≡ None) → b.cuts ≢ a.cuts → ((x first : State) → IsOn x first s.way → IsOn x first t.way) → (has_end s.acts ≡ true → has_end t.acts ≡ true) → RunsAt told a b s → RunsAt told a b t
+pub RunsAt-cut : (told : Rest) (a b : CoreView) (s t : Stepped) → ((j : ℕ) → close_of j s.acts ≡ None) → b.cuts ≢ a.cuts → ((x first : Stage) → IsOn x first s.way → IsOn x first t.way) → (has_end s.acts ≡ true → has_end t.acts ≡ true) → RunsAt told a b s → RunsAt told a b t
 RunsAt-cut told a b s t none cut longer ends f = record {
   keeps = f.keeps;
   board = f.board;
@@ -45,14 +46,14 @@ RunsAt-cut told a b s t none cut longer ends f = record {
   contains = λ below distinct were agrees.
       let is = f.contains below distinct were agrees in
       let part = is.part in
-      record { whole = λ same. absurd (cut same); quits = λ over. or-more a.quits (has_end s.acts) (has_end t.acts) ends (is.quits over); part = record { state = part.state; is_on = longer part.state (state_with a told) part.is_on; holds = part.holds } };
+      record { whole = λ same. absurd (cut same); quits = λ over. or-more a.quits (has_end s.acts) (has_end t.acts) ends (is.quits over); part = record { stage = part.stage; is_on = longer part.stage (first_stage (state_with a told)) part.is_on; holds = part.holds; servers = part.servers } };
 }
 
 -- the next one is skipped where the first was cut short
 pub Runs-cut : (a b : CoreView) (first next : State → Stepped) → ClosesNone first → b.cuts ≢ a.cuts → Runs a b first → Runs a b (λ state. then_does (first state) next)
 Runs-cut a b first next none cut f = λ told.
     let one = first (state_with a told) in
-    RunsAt-cut told a b one (then_does one next) (λ j. none j (state_with a told)) cut (λ x at on. IsOn-first x at one.way (next one.state).way on) (ends-then one.acts (next one.state).acts) (f told)
+    RunsAt-cut told a b one (then_does one next) (λ j. none j (state_with a told)) cut (λ x at on. IsOn-first x at one.way (way_after (outs_of one.acts) (next one.state).way) on) (ends-then one.acts (next one.state).acts) (f told)
 
 -- what is chosen by what the state says
 pub Runs-as : (a b : CoreView) (step whole : State → Stepped) → ((told : Rest) → step (state_with a told) ≡ whole (state_with a told)) → Runs a b step → Runs a b whole
@@ -74,11 +75,11 @@ pub ends_both : (one : Stepped) (next : State → Stepped) → has_end one.acts 
 ends_both one next e = rw e e
 
 -- what is on the way of the first is on that of both
-pub on_both : (one : Stepped) (next : State → Stepped) (x first : State) → IsOn x first one.way → IsOn x first (unless_ended one next).way
+pub on_both : (one : Stepped) (next : State → Stepped) (x first : Stage) → IsOn x first one.way → IsOn x first (unless_ended one next).way
 on_both one next x first on = by (has_end one.acts) where
   by : (t : Bool) → IsOn x first (cond t one (then_does one next)).way
   by true = on
-  by false = IsOn-first x first one.way (next one.state).way on
+  by false = IsOn-first x first one.way (way_after (outs_of one.acts) (next one.state).way) on
 
 -- a step that ran `/quit`, before another one
 pub ends-first : (a b : CoreView) (first next : State → Stepped) → ClosesNone first → a.quits ≡ false → b.quits ≡ true → Runs a b first → Runs a b (λ state. unless_ended (first state) next)
@@ -99,7 +100,7 @@ ends-first a b first next none going quit done = λ told.
           let Q : Bool → Type 0 = λ t. IsDone told a b (cond t one (then_does one next)) in
           record {
             whole = λ same. (let d = is.whole same in subst Q (sym (ended a.quits b.quits (has_end one.acts) going d.quits ∙ quit)) d);
-            part = record { state = is.part.state; is_on = on_both one next is.part.state (state_with a told) is.part.is_on; holds = is.part.holds };
+            part = record { stage = is.part.stage; is_on = on_both one next is.part.stage (first_stage (state_with a told)) is.part.is_on; holds = is.part.holds; servers = is.part.servers };
             quits = λ over. or-more a.quits (has_end one.acts) (has_end (unless_ended one next).acts) (ends_both one next) (is.quits over);
           };
     }

@@ -15,9 +15,9 @@ use Rattle.wc_irc.specs.declared.act.Act.{Act as ServerAct}
 use Rattle.wc_irc.specs.declared.act.Act.TheVariants as act
 use Rattle.wc_servers.specs.declared.wanted.Wanted.{Wanted}
 use Rattle.wc_servers.specs.Outs.{Out, Connects, Parts, first_line, quit_outs}
-use Rattle.wc_servers.specs.Seats.{SeatView, ServersView, ServerSeat, seat_link, is_open, seat_of, open_of, leaving_in, links_of, known, left_for, new_seat, wanted_of, begun, told_first, quitting, MayQuit, used_up, forgotten}
+use Rattle.wc_servers.specs.Seats.{SeatView, ServersView, ServerSeat, seat_link, is_open, seat_of, open_of, leaving_in, links_of, known, left_for, new_seat, wanted_of, begun, told_first, quitting, used_up, forgotten}
 use Rattle.wc_servers.proofs.OutLemmas.{ServersKeep-put, begun-keeps, open-push}
-use Rattle.wc_servers.proofs.QuitLemmas.{may_quit_links, may_quit_open, quit-keeps}
+use Rattle.wc_servers.proofs.QuitLemmas.{MayQuit, may_quit_links, may_quit_open, quit-keeps}
 use Rattle.wc_servers.proofs.SeatLemmas.{put_links, seats_same, seats_push}
 use Rattle.wc_core.specs.ServersKept.{is_wanted, AreNext, put_by_rank, leaving_seats, parting_by, parting_of, partings_of, parts_by, parts_in, AreRanked, AreInOrder, LeaveInOrder, ServersKeep, left_after}
 

@@ -35,7 +35,7 @@ use Rattle.wc_core.specs.Typed.{TypedCommand}
 use Rattle.wc_core.specs.Resolved.{Effect, effect_of, refusal_text, told_refusal}
 use Rattle.wc_core.specs.Inputs.{MakesChange, RefusesChange, push_before, AnswersRequestOf}
 use Rattle.wc_core.specs.Limits.{client_limit}
-use Rattle.wc_core.specs.State.{State, Act, Stepped, Closes, has_end}
+use Rattle.wc_core.specs.State.{State, Act, Stepped, Closes, has_end, outs_of}
 use Rattle.wc_core.specs.Step.{client_link, no_step, then_does, push_step, reply_step, sends, tell_all_step, change_step, change_step_if, refusal_step, ask_step_if, ask_step, effect_step, typed_step, leave_step, arrival_step, outcome_step, answer_step, request_step, line_step}
 use Rattle.wc_board.specs.Connections.{connection_link, is_open, is_open_at, leaving_on, left_if, left_at}
 use Rattle.wc_core.specs.Served.{clients_of, WereTold, close_of, LeavesBy, AdmitsUnlessStarved, OutcomeUtf8, plain_beside, Follows, KeepsClients, or_else, state_of}
@@ -48,7 +48,8 @@ use Rattle.wc_core.specs.State.{Beside, beside}
 use Rattle.wc_board.proofs.TellLaw.{change_keeps_told}
 use Rattle.wc_buffers.specs.Kept.{AreBuffers}
 use Rattle.wc_core.proofs.CloseLemmas.{reply-later, pushes-closes, answer-closes-same}
-use Rattle.wc_servers.specs.Seats.{used_up}
+use Rattle.wc_servers.specs.Outs.{ServersFollow}
+use Rattle.wc_servers.specs.Seats.{ServersView, used_up}
 use Rattle.wc_core.proofs.ComeLemmas.{ServersKeep-refl}
 use Rattle.wc_core.proofs.DidLemmas.{servers-same, ClosesLater, leaves-none, Follows-stays, KeepsClients-refl, KeepsClients-trans, KeepsClients-connections, saves-as, no-outs, or-false}
 use Rattle.wc_core.proofs.ConnectionLemmas.{open-length, clients-push, links-push, unsent-push, leaving-push, kept-push, client-open, client-missing, client-leaving, end-sends, end-told, outs-sends, outs-told}
@@ -59,14 +60,18 @@ use Rattle.wc_board.proofs.EventLemmas.{served_map, served_kept}
 use Rattle.wc_core.proofs.ServeLemmas.{open_none, told_to_all, told-left, Follows-told, KeepsClients-told, KeepsClients-put, reply-left, Follows-reply, leave-left, Follows-leave}
 use Rattle.wc_core.proofs.ReplyLemmas.{reply_fits}
 use Rattle.wc_core.proofs.PushLemmas.{Runs-over}
-use Rattle.wc_core.specs.Contained.{Rest, state_with, RunsBy, RunsAt, RunsFor, Runs, RanOutOfMemory, RanOutFor, Counts, Holds, IsDone, LosesAsker, LosesAskerIf, RunsHere, beside_in, want_number, rest_in, starving_number, raised, starved_by}
+use Rattle.wc_core.specs.Contained.{Rest, state_with, first_stage, last_stage, RunsBy, RunsAt, RunsFor, Runs, RanOutOfMemory, RanOutFor, Counts, Holds, IsDone, LosesAsker, LosesAskerIf, RunsHere, beside_in, want_number, rest_in, starving_number, raised, starved_by}
 use Rattle.wc_eval.specs.Verdicts.{Agrees, VerdictsView}
-use Rattle.wc_core.specs.Changing.{put_step, reach_step}
+use Rattle.wc_core.specs.Changing.{put_step, reach_step, way_after}
 use Rattle.wc_core.proofs.RunLemmas.{IsOn-first, Runs-starved, Runs-stays, RunsAt-exact, RunsAt-then, contained-none, RunsAt-starved, RunsBy-any, or-more}
 use Rattle.wc_core.proofs.CountLemmas.{AreDropped, Counts-refl, counts-dropped, counts-none, counts-short, kept_dropped, raised-none, served_none, starved_by-raised, starving_put, told_starving, counts-after-drops}
 use Rattle.wc_core.proofs.ChainLemmas.{stays-by, ends-then}
 
 -- ---- want of memory
+
+-- nothing went out
+unsaid : (old new : CoreView) → new.servers ≡ old.servers → ServersFollow old.servers new.servers []
+unsaid old new e = let P : ServersView → Type 0 = λ v. ServersFollow old.servers v [] in subst P (sym e) (ServersFollow-refl old.servers)
 
 -- want of memory alone
 pub starves-only : (old new : CoreView) → new ≡ record old { starved = min (old.starved + 1) (2 ^ 64 - 1); cuts = min (old.cuts + 1) (2 ^ 64 - 1) } → old.starved ≤ new.starved → RanOutOfMemory old new
@@ -83,6 +88,7 @@ starves-only old new e rises =
       cut = λ below. omega (arith, cuts, below);
       holds = λ told were. (let P : CoreView → Type 0 = λ c. Holds c (state_with old told) in subst P (sym e) (record { same = refl; told = were }));
       quits = ap (λ (c : CoreView). c.quits) e ∙ sym (or-false old.quits);
+      servers = unsaid old new (ap (λ (c : CoreView). c.servers) e);
     }
 
 pub starved_only : (old new : CoreView) (step : State → Stepped) → new ≡ record old { starved = min (old.starved + 1) (2 ^ 64 - 1); cuts = min (old.cuts + 1) (2 ^ 64 - 1) } → old.starved ≤ new.starved → Runs old new step
@@ -169,7 +175,7 @@ some-change old world pending connections k change n made served count rises = �
       subst P (sym all) (record { means = record { same = g.means.same; told = g.means.told }; oracle = g.oracle; bytes = g.bytes; leaving = g.leaving; quits = g.quits; servers = g.servers; parts = g.parts });
   contains = λ below distinct were agrees.
       let d = as_change (λ stepped. IsDone told old new stepped) old world change n told made.accepted (told-done told (rows_after old change told) old world pending connections k n (were_after old world pending change n made told were)) in
-      record { whole = λ same. d; quits = λ over. sym d.quits ∙ over; part = record { state = (change_step (state_with old told) change).state; is_on = d.is_on; holds = d.holds } };
+      record { whole = λ same. d; quits = λ over. sym d.quits ∙ over; part = record { stage = last_stage (change_step (state_with old told) change); is_on = d.is_on; holds = d.holds; servers = d.servers } };
 } where
   new : CoreView
   new = record old { world = world; pending = pending; connections = connections; starved = k }
@@ -304,7 +310,7 @@ leave-starves j k before after (inl e) = by (nat_eq k j) before e where
   by false (Some why) e = inl e
 
 -- it leaves as it finds no memory for what it asked, which is cut short
-pub asker-starves : (old new : CoreView) (k : ℕ) → is_open_at (at_key connection_link k old.connections) ≡ true → LosesAsker k old new → old.starved ≤ new.starved → RanOutFor (Some k) false old new
+pub asker-starves : (old new : CoreView) (k : ℕ) → is_open_at (at_key connection_link k old.connections) ≡ true → LosesAsker k old new → old.starved ≤ new.starved → RanOutFor (Some k) false [] old new
 asker-starves old new k opened lost rises =
     let P : Bool → Type 0 = λ t. LosesAskerIf t k old new in
     starves (subst P opened lost)
@@ -315,7 +321,7 @@ asker-starves old new k opened lost rises =
     mid : CoreView
     mid = record old { connections = left; starved = min (old.starved + 1) (2 ^ 64 - 1) }
 
-    starves : new ≡ record mid { cuts = min (old.cuts + 1) (2 ^ 64 - 1) } → RanOutFor (Some k) false old new
+    starves : new ≡ record mid { cuts = min (old.cuts + 1) (2 ^ 64 - 1) } → RanOutFor (Some k) false [] old new
     starves e =
         let count : new.starved ≡ min (old.starved + 1) (2 ^ 64 - 1) = ap (λ (c : CoreView). c.starved) e in
         let cuts : new.cuts ≡ min (old.cuts + 1) (2 ^ 64 - 1) = ap (λ (c : CoreView). c.cuts) e in
@@ -334,6 +340,7 @@ asker-starves old new k opened lost rises =
           cut = λ below. omega (arith, cuts, below);
           holds = λ told were. (let T : CoreView → Type 0 = λ c. Holds c (state_with old told) in subst T (sym e) (record { same = refl; told = were }));
           quits = ap (λ (c : CoreView). c.quits) e ∙ sym (or-false old.quits);
+          servers = unsaid old new (ap (λ (c : CoreView). c.servers) e);
         }
       where
         one_more : (o : Option Connection) → at_key connection_link k old.connections ≡ o → is_open_at o ≡ true → starving_number (left_at k NoMemory old.connections o) ≡ starving_number old.connections + 1
@@ -531,7 +538,7 @@ cut-after-pushes told old between new k first next none uncut drops counts f e =
           let R : CoreView → Type 0 = λ c. Holds c first.state in
           record {
             whole = λ same. absurd (omega (arith, cuts, same, uncut, below));
-            part = record { state = first.state; is_on = IsOn-first first.state (state_with old told) first.way (next first.state).way first_done.is_on; holds = subst R (sym e) (record { same = first_done.holds.same; told = first_done.holds.told }) };
+            part = record { stage = last_stage first; is_on = IsOn-first (last_stage first) (first_stage (state_with old told)) first.way (way_after (outs_of first.acts) (next first.state).way) first_done.is_on; holds = subst R (sym e) (record { same = first_done.holds.same; told = first_done.holds.told }); servers = (let V : ServersView → Type 0 = λ v. ServersFollow old.servers v (outs_of first.acts) in subst V (sym (ap (λ (c : CoreView). c.servers) e)) first_done.servers) };
             quits = λ over. or-more old.quits (has_end first.acts) (has_end (then_does first next).acts) (ends-then first.acts (next first.state).acts) (sym first_done.quits ∙ ap (λ (c : CoreView). c.quits) (sym e) ∙ over);
           };
     }

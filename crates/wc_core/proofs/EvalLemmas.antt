@@ -8,6 +8,8 @@ use Rattle.wc_text.specs.declared.names.Handle.{Handle}
 use Rattle.wc_outside.specs.Keyed.{at_key}
 use Rattle.wc_board.specs.Connections.{connection_link, leaving_on}
 use Rattle.wc_board.specs.Served.{StaysOrStarves}
+use Rattle.wc_servers.specs.Outs.{ServersFollow}
+use Rattle.wc_servers.specs.Seats.{ServersView}
 use Rattle.wc_core.specs.CoreView.{CoreView}
 use Rattle.wc_core.specs.BoardSteps.{board_of}
 use Rattle.wc_core.proofs.BoardStepLemmas.{steps-same, by-both, by-same}
@@ -76,7 +78,7 @@ contained-judged : (told : Rest) (a b c : CoreView) (stepped : Stepped) → b �
 contained-judged told a b c stepped only f =
     let P : CoreView → Type 0 = λ core. IsContained told core c stepped in
     let g : IsContained told (record a { verdicts = b.verdicts }) c stepped = subst P only f in
-    record { whole = λ same. (let d = g.whole same in record { holds = d.holds; is_on = d.is_on; oracle = d.oracle; quits = d.quits; servers = d.servers }); part = g.part; quits = g.quits }
+    record { whole = λ same. (let d = g.whole same in record { holds = d.holds; is_on = d.is_on; oracle = d.oracle; quits = d.quits; servers = d.servers }); part = record { stage = g.part.stage; is_on = g.part.is_on; holds = g.part.holds; servers = g.part.servers }; quits = g.quits }
 
 counts-judged : (a b c : CoreView) → b ≡ record a { verdicts = b.verdicts } → Counts 0 b c → Counts 0 a c
 counts-judged a b c only f = Counts-trans a b c (counts-none a b (ap (λ (core : CoreView). starving_number core.connections) only) (ap (λ (core : CoreView). core.starved) only) (ap (λ (core : CoreView). core.cuts) only)) f
@@ -133,6 +135,7 @@ judged-starves a b c step judges counts rises =
       counted = λ below. (let more = starves.counted (omega (arith, below, e)) in omega (arith, more, e));
       cut = λ below. (let more = starves.cut (omega (arith, below, cuts)) in omega (arith, more, cuts));
       quits = starves.quits ∙ ap (λ (core : CoreView). core.quits || false) judges.only;
+      servers = (let V : ServersView → Type 0 = λ v. ServersFollow v c.servers [] in subst V (ap (λ (core : CoreView). core.servers) judges.only) starves.servers);
       holds = λ told were.
           let P : CoreView → Type 0 = λ core. WereTold core (beside_in told) in
           let Q : CoreView → Type 0 = λ core. Holds c (state_with core told) in

@@ -117,7 +117,7 @@ module _ (k : ℕ) (old mid new : CoreView) (why : Cause) (step : State → Step
       let P : CoreView → Type 0 = λ c. IsContained (rest_in old told) old c (step (state_of old told)) in
       subst P (sym e) (record {
         whole = λ same. (let d = is.whole same in record { holds = record { same = d.holds.same; told = d.holds.told }; is_on = d.is_on; oracle = d.oracle; quits = d.quits; servers = d.servers });
-        part = record { state = is.part.state; is_on = is.part.is_on; holds = record { same = is.part.holds.same; told = is.part.holds.told } };
+        part = record { stage = is.part.stage; is_on = is.part.is_on; holds = record { same = is.part.holds.same; told = is.part.holds.told }; servers = is.part.servers };
         quits = is.quits;
       })
 

@@ -45,7 +45,7 @@ use Rattle.wc_core.proofs.PushBytes.{pushes-sent, pushed-clients}
 use Rattle.wc_eval.specs.Verdicts.{Oracle, VerdictsView}
 use Rattle.wc_core.proofs.ComeLemmas.{ServersKeep-refl}
 use Rattle.wc_core.proofs.OracleLemmas.{verdicts-same, Stay-refl}
-use Rattle.wc_core.specs.Contained.{Rest, beside_in, rest_in, state_with, Holds, IsDone, Contains, Counts, Runs}
+use Rattle.wc_core.specs.Contained.{Rest, beside_in, rest_in, state_with, last_stage, Holds, IsDone, Contains, Counts, Runs}
 
 -- ---- the core at first
 
@@ -111,7 +111,7 @@ Runs-over old mid new step e same done =
               record { means = g.means; oracle = g.oracle; bytes = g.bytes; leaving = g.leaving; quits = g.quits; servers = g.servers; parts = g.parts };
           contains = λ below distinct were agrees.
               let is = f.contains below distinct (same-told old mid.pending (beside_in told) same were) agrees in
-              record { whole = λ uncut. (let d = is.whole uncut in record { holds = d.holds; is_on = d.is_on; oracle = d.oracle; quits = d.quits; servers = d.servers }); part = is.part; quits = is.quits };
+              record { whole = λ uncut. (let d = is.whole uncut in record { holds = d.holds; is_on = d.is_on; oracle = d.oracle; quits = d.quits; servers = d.servers }); part = record { stage = is.part.stage; is_on = is.part.is_on; holds = is.part.holds; servers = is.part.servers }; quits = is.quits };
         }
 
 -- ---- pushes
@@ -198,7 +198,7 @@ push-done old new is = λ told. record {
   does = λ here same below distinct were agrees.
       let P : List Client → Type 0 = λ clients. Follows (beside_in told) old new (push_step (record (state_with old told) { clients = clients })) in
       subst P (sym here) (by (beside_in told) same below distinct were);
-  contains = λ below distinct were agrees. record { whole = λ uncut. done told; quits = λ over. sym (done told).quits ∙ over; part = record { state = (push_step (state_with old told)).state; is_on = inr refl; holds = (done told).holds } };
+  contains = λ below distinct were agrees. record { whole = λ uncut. done told; quits = λ over. sym (done told).quits ∙ over; part = record { stage = last_stage (push_step (state_with old told)); is_on = inr refl; holds = (done told).holds; servers = (done told).servers } };
 } where
   next : CoreView
   next = record old { pending = new.pending; connections = new.connections; starved = new.starved }
@@ -251,7 +251,7 @@ tick-contained old new moment run uncut = λ told below distinct were agrees.
     let holds : Holds new (step (state_of old told) (Tick moment)).state = record { same = d.holds.same; told = d.holds.told } in
     record {
       whole = λ same. record { holds = holds; is_on = inr refl; oracle = d.oracle; quits = d.quits; servers = d.servers };
-      part = record { state = (step (state_of old told) (Tick moment)).state; is_on = inr refl; holds = holds };
+      part = record { stage = last_stage (step (state_of old told) (Tick moment)); is_on = inr refl; holds = holds; servers = d.servers };
       quits = λ over. sym d.quits ∙ over;
     }
 

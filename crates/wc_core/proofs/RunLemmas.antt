@@ -1,5 +1,5 @@
 -- How steps that are run follow one another, whatever memory is refused.
-use Rattle.std.proofs.Common.{◌≡◌, ℕ, ◌-◌, ◌^◌, ◌<◌, ◌||◌, Bool, true, false, List, [], ◌∷◌, ◌++◌, inl, inr, Option, Some, None, refl, ap, sym, subst, ◌∙◌, arith}
+use Rattle.std.proofs.Common.{◌≡◌, ℕ, ◌-◌, ◌^◌, ◌<◌, ◌||◌, Bool, true, false, List, [], ◌∷◌, ◌++◌, append-nil, map, inl, inr, Option, Some, None, refl, ap, sym, subst, ◌∙◌, arith}
 use Rattle.wc_session.specs.declared.client.Client.{Client}
 use Rattle.wc_board.specs.Connections.{leaving_on}
 use Rattle.wc_eval.specs.Verdicts.{Oracle, Agrees}
@@ -7,11 +7,12 @@ use Rattle.wc_servers.specs.Outs.{Out, ServersFollow}
 use Rattle.wc_servers.proofs.OutLemmas.{ServersFollow-refl, ServersFollow-trans}
 use Rattle.wc_core.specs.BoardSteps.{board_of, StepsBy}
 use Rattle.wc_core.specs.CoreView.{CoreView}
-use Rattle.wc_core.specs.State.{State, beside, Stepped, has_end}
+use Rattle.wc_core.specs.State.{State, beside, Stage, Stepped, has_end}
+use Rattle.wc_core.specs.Changing.{after_out, way_after}
 use Rattle.wc_core.specs.Step.{no_step, then_does}
 use Rattle.wc_core.specs.Served.{links_of, clients_of, state_of, WereTold, close_of, or_else, outs_of, Distinct, LeavesBy, Follows, KeepsClients, Does}
 use Rattle.wc_core.specs.Served.{plain_beside}
-use Rattle.wc_core.specs.Contained.{Rest, rest_of, beside_in, rest_in, state_with, Holds, IsOn, IsDone, IsContained, Contains, Counts, RunsBy, RunsAt, RunsFor, Runs, RunsHere, RanOutFor}
+use Rattle.wc_core.specs.Contained.{Rest, rest_of, beside_in, rest_in, state_with, Holds, first_stage, last_stage, IsOn, IsDone, IsContained, Contains, Counts, RunsBy, RunsAt, RunsFor, Runs, RunsHere, RanOutFor}
 use Rattle.wc_core.proofs.BoardStepLemmas.{by-any, by-both, by-same}
 use Rattle.wc_core.proofs.OracleLemmas.{Agrees-before}
 use Rattle.wc_core.proofs.CountLemmas.{Counts-refl, Counts-trans}
@@ -20,29 +21,51 @@ use Rattle.std.proofs.lemmas.Bool.{false≢true}
 
 -- ---- the way of a step
 
-pub IsOn-begin : (first : State) (way : List State) → IsOn first first way
+pub IsOn-begin : (first : Stage) (way : List Stage) → IsOn first first way
 IsOn-begin first [] = refl
 IsOn-begin first (next ∷ way) = inl refl
 
 -- what is on the way is on a longer one
-pub IsOn-first : (s first : State) (way more : List State) → IsOn s first way → IsOn s first (way ++ more)
+pub IsOn-first : (s first : Stage) (way more : List Stage) → IsOn s first way → IsOn s first (way ++ more)
 IsOn-first s first [] [] e = e
 IsOn-first s first [] (next ∷ more) e = inl e
 IsOn-first s first (next ∷ way) more (inl e) = inl e
 IsOn-first s first (next ∷ way) more (inr on) = inr (IsOn-first s next way more on)
 
 -- what is on a way is on the same one after another
-IsOn-later : (s first next : State) (way more : List State) → IsOn s next more → IsOn s first (way ++ next ∷ more)
+IsOn-later : (s first next : Stage) (way more : List Stage) → IsOn s next more → IsOn s first (way ++ next ∷ more)
 IsOn-later s first next [] more on = inr on
 IsOn-later s first next (n ∷ way) more on = inr (IsOn-later s n next way more on)
 
 -- a way that begins on another one
-pub IsOn-then : (s m first : State) (way more : List State) → IsOn m first way → IsOn s m more → IsOn s first (way ++ more)
-IsOn-then s m first [] more e on = let P : State → Type 0 = λ m. IsOn s m more in subst P e on
+IsOn-then : (s m first : Stage) (way more : List Stage) → IsOn m first way → IsOn s m more → IsOn s first (way ++ more)
+IsOn-then s m first [] more e on = let P : Stage → Type 0 = λ m. IsOn s m more in subst P e on
 IsOn-then s m first (n ∷ way) [] (inl e) on = inl (on ∙ e)
 IsOn-then s m first (n ∷ way) (x ∷ more) (inl e) (inl same) = inl (same ∙ e)
 IsOn-then s m first (n ∷ way) (x ∷ more) (inl e) (inr on) = inr (IsOn-later s n x way more on)
 IsOn-then s m first (n ∷ way) more (inr at) on = inr (IsOn-then s m n way more at on)
+
+-- the same way after more went out
+abbrev after_outs : List Out → Stage → Stage
+after_outs outs s = record { state = s.state; outs = outs ++ s.outs }
+
+on-out : (out : Out) (s first : Stage) (way : List Stage) → IsOn s first way → IsOn (after_out out s) (after_out out first) (map (after_out out) way)
+on-out out s first [] e = ap (after_out out) e
+on-out out s first (n ∷ way) (inl e) = inl (ap (after_out out) e)
+on-out out s first (n ∷ way) (inr on) = inr (on-out out s n way on)
+
+on-outs : (outs : List Out) (s first : Stage) (way : List Stage) → IsOn s first way → IsOn (after_outs outs s) (after_outs outs first) (way_after outs way)
+on-outs [] s first way on = on
+on-outs (out ∷ outs) s first way on = on-out out (after_outs outs s) (after_outs outs first) (way_after outs way) (on-outs outs s first way on)
+
+-- what is on the way of the second of two steps
+on-second : (s : Stage) (from : State) (first : Stepped) (next : State → Stepped) → IsOn (last_stage first) (first_stage from) first.way → IsOn s (first_stage first.state) (next first.state).way → IsOn (after_outs (outs_of first.acts) s) (first_stage from) (then_does first next).way
+on-second s from first next one two =
+    let outs = outs_of first.acts in
+    let more = way_after outs (next first.state).way in
+    let S : List Out → Stage = λ outs. record { state = first.state; outs = outs } in
+    let P : Stage → Type 0 = λ m. IsOn (after_outs outs s) m more in
+    IsOn-then (after_outs outs s) (last_stage first) (first_stage from) first.way more one (subst P (ap S (append-nil outs)) (on-outs outs s (first_stage first.state) (next first.state).way two))
 
 -- ---- nothing is done
 
@@ -53,7 +76,7 @@ pub done-none : (told : Rest) (a : CoreView) → WereTold a (beside_in told) →
 done-none told a were = record { holds = Holds-same a told were; is_on = refl; oracle = refl; quits = sym (or-false a.quits); servers = ServersFollow-refl a.servers }
 
 pub contained-none : (told : Rest) (a : CoreView) → WereTold a (beside_in told) → IsContained told a a (no_step (state_with a told))
-contained-none told a were = record { whole = λ same. done-none told a were; part = record { state = state_with a told; is_on = refl; holds = Holds-same a told were }; quits = λ over. or-false a.quits ∙ over }
+contained-none told a were = record { whole = λ same. done-none told a were; part = record { stage = first_stage (state_with a told); is_on = refl; holds = Holds-same a told were; servers = ServersFollow-refl a.servers }; quits = λ over. or-false a.quits ∙ over }
 
 -- ---- a step of which no growth was refused
 
@@ -73,7 +96,7 @@ RunsAt-exact told a b of keeps board counts leaves did done = record {
       subst P (sym here) (did distinct were);
   contains = λ below distinct were agrees. record {
     whole = λ same. done distinct were;
-    part = record { state = (of told.clients).state; is_on = (done distinct were).is_on; holds = (done distinct were).holds };
+    part = record { stage = last_stage (of told.clients); is_on = (done distinct were).is_on; holds = (done distinct were).holds; servers = (done distinct were).servers };
     quits = λ over. sym (done distinct were).quits ∙ over;
   };
 }
@@ -89,8 +112,9 @@ or-more false b c more e = more e
 
 -- ---- memory was refused at the begin
 
-pub RunsAt-short : {own : Option ℕ} → (told : Rest) (a b : CoreView) (stepped : Stepped) (ends : Bool) → (ends ≡ true → has_end stepped.acts ≡ true) → RanOutFor own ends a b → RunsBy own told a b stepped
-RunsAt-short told a b stepped ends reaches f = record {
+pub RunsAt-short : {own : Option ℕ} → (told : Rest) (a b : CoreView) (stepped : Stepped) (ends : Bool) (outs : List Out) → (ends ≡ true → has_end stepped.acts ≡ true) → IsOn (record { state = state_with a told; outs = outs }) (first_stage (state_with a told)) stepped.way
+    → RanOutFor own ends outs a b → RunsBy own told a b stepped
+RunsAt-short told a b stepped ends outs reaches on f = record {
   keeps = f.keeps;
   board = f.board;
   counts = f.counts;
@@ -98,15 +122,15 @@ RunsAt-short told a b stepped ends reaches f = record {
   does = λ here same below distinct were agrees. (let more = f.counted below in absurd (omega arith));
   contains = λ below distinct were agrees. record {
     whole = λ same. (let more = f.cut below in absurd (omega (arith, more, same)));
-    part = record { state = state_with a told; is_on = IsOn-begin (state_with a told) stepped.way; holds = f.holds told were };
+    part = record { stage = record { state = state_with a told; outs = outs }; is_on = on; holds = f.holds told were; servers = f.servers };
     quits = λ over. or-more a.quits ends (has_end stepped.acts) reaches (sym f.quits ∙ over);
   };
 }
 
-pub RunsAt-starved : {own : Option ℕ} → (told : Rest) (a b : CoreView) (stepped : Stepped) → RanOutFor own false a b → RunsBy own told a b stepped
-RunsAt-starved told a b stepped f = RunsAt-short told a b stepped false (λ q. absurd (false≢true q)) f
+pub RunsAt-starved : {own : Option ℕ} → (told : Rest) (a b : CoreView) (stepped : Stepped) → RanOutFor own false [] a b → RunsBy own told a b stepped
+RunsAt-starved told a b stepped f = RunsAt-short told a b stepped false [] (λ q. absurd (false≢true q)) (IsOn-begin (first_stage (state_with a told)) stepped.way) f
 
-pub Runs-starved : {own : Option ℕ} → (a b : CoreView) (step : State → Stepped) → RanOutFor own false a b → RunsFor own a b step
+pub Runs-starved : {own : Option ℕ} → (a b : CoreView) (step : State → Stepped) → RanOutFor own false [] a b → RunsFor own a b step
 Runs-starved a b step f = λ told. RunsAt-starved told a b (step (state_with a told)) f
 
 -- ---- one step after another
@@ -117,7 +141,11 @@ IsDone-then told a b c first next f g same =
     let second = next first.state in
     record {
       holds = g.holds;
-      is_on = (let P : State → Type 0 = λ s. IsOn second.state s second.way in IsOn-then second.state first.state (state_with a told) first.way second.way f.is_on (subst P (sym same) g.is_on));
+      is_on =
+          let P : State → Type 0 = λ s. IsOn (last_stage second) (first_stage s) second.way in
+          let S : List Out → Stage = λ outs. record { state = second.state; outs = outs } in
+          let Q : Stage → Type 0 = λ s. IsOn s (first_stage (state_with a told)) (then_does first next).way in
+          subst Q (ap S (sym (outs_of-append first.acts second.acts))) (on-second (last_stage second) (state_with a told) first next f.is_on (subst P (sym same) g.is_on));
       oracle = g.oracle ∙ f.oracle;
       quits = g.quits ∙ ap (λ t. t || has_end second.acts) f.quits ∙ or-assoc a.quits (has_end first.acts) (has_end second.acts) ∙ ap (λ t. a.quits || t) (sym (has_end-append first.acts second.acts));
       servers = (let Q : List Out → Type 0 = λ outs. ServersFollow a.servers c.servers outs in subst Q (sym (outs_of-append first.acts second.acts)) (ServersFollow-trans a.servers b.servers c.servers (outs_of first.acts) (outs_of second.acts) f.servers g.servers));
@@ -157,13 +185,14 @@ RunsAt-then {own} told a b c first next closes uncut f run = record {
       let two = g.contains (omega (arith, below, uncut)) (subst Distinct (sym f.keeps.links) distinct) one.holds.told (subst P (sym one.oracle) agrees) in
       let Q : State → Type 0 = λ s. IsContained (rest_of first.state) b c (next s) in
       let more = subst Q (sym one.holds.same) two in
-      let R : State → Type 0 = λ s. IsOn more.part.state s (next first.state).way in
+      let R : State → Type 0 = λ s. IsOn more.part.stage (first_stage s) (next first.state).way in
       record {
         whole = λ same. IsDone-then told a b c first next one (more.whole (omega (arith, same, uncut))) one.holds.same;
         part = record {
-          state = more.part.state;
-          is_on = IsOn-then more.part.state first.state (state_with a told) first.way (next first.state).way one.is_on (subst R (sym one.holds.same) more.part.is_on);
+          stage = after_outs (outs_of first.acts) more.part.stage;
+          is_on = on-second more.part.stage (state_with a told) first next one.is_on (subst R (sym one.holds.same) more.part.is_on);
           holds = more.part.holds;
+          servers = ServersFollow-trans a.servers b.servers c.servers (outs_of first.acts) more.part.stage.outs one.servers more.part.servers;
         };
         quits = λ over.
             ap (λ t. a.quits || t) (has_end-append first.acts (next first.state).acts) ∙ sym (or-assoc a.quits (has_end first.acts) (has_end (next first.state).acts)) ∙ ap (λ t. t || has_end (next first.state).acts) (sym one.quits)

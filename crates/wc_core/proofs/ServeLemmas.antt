@@ -23,7 +23,7 @@ use Rattle.wc_board.specs.declared.connection.Connection.{Connection}
 use Rattle.wc_core.specs.CoreView.{CoreView}
 use Rattle.wc_core.specs.BoardSteps.{board_of, BoardSteps}
 use Rattle.wc_core.specs.TypedSeen.{lines_left}
-use Rattle.wc_core.specs.State.{State, Stepped, has_end}
+use Rattle.wc_core.specs.State.{State, Stage, Stepped, has_end}
 use Rattle.wc_core.specs.Inputs.{GoesOn, Stops}
 use Rattle.wc_core.specs.Step.{client_link, sends, no_step, then_does, tell_all_step, input_step, lines_step, leave_step}
 use Rattle.wc_board.specs.Connections.{connection_link, is_open, unsent_in, unsent_on, leaving_in, leaving_on}
@@ -220,7 +220,7 @@ pub stops-cut : (a b : CoreView) (buffer : Handle) (line : List ℕ) → b.cuts 
 stops-cut a b buffer line cut f = λ lines there told.
     let state = state_with a told in
     let one = input_step state buffer line in
-    let longer : (x first : State) → IsOn x first one.way → IsOn x first (lines_step state buffer (line ∷ lines)).way =
+    let longer : (x first : Stage) → IsOn x first one.way → IsOn x first (lines_step state buffer (line ∷ lines)).way =
     λ x first on. (let P : Stepped → Type 0 = λ s. IsOn x first s.way in runs-there P state buffer line lines there (on_both one (λ next. lines_step next buffer lines) x first on)) in
     let ends : has_end one.acts ≡ true → has_end (lines_step state buffer (line ∷ lines)).acts ≡ true =
     λ e. (let P : Stepped → Type 0 = λ s. has_end s.acts ≡ true in runs-there P state buffer line lines there (ends_both one (λ next. lines_step next buffer lines) e)) in
@@ -286,7 +286,7 @@ goes-aside old mid quit' quit step going was run =
               let is = f.contains below distinct were agrees in
               record {
                 whole = λ same. (let d = is.whole same in record { holds = record { same = d.holds.same; told = d.holds.told }; is_on = d.is_on; oracle = d.oracle; quits = ap (λ t. t || old.quits) d.quits ∙ or-turned _ old.quits; servers = d.servers });
-                part = record { state = is.part.state; is_on = is.part.is_on; holds = record { same = is.part.holds.same; told = is.part.holds.told } };
+                part = record { stage = is.part.stage; is_on = is.part.is_on; holds = record { same = is.part.holds.same; told = is.part.holds.told }; servers = is.part.servers };
                 quits = λ over. or-aside mid.quits old.quits (has_end (step (state_with old told)).acts) is.quits over;
               };
         }

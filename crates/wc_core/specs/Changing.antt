@@ -21,7 +21,8 @@ use Rattle.wc_session.specs.declared.client.Client.{Client}
 use Rattle.wc_session.specs.Event.{notice_told, push_told}
 use Rattle.wc_session.specs.Sync.{after_event}
 use Rattle.wc_core.specs.Resolved.{refusal_text, option_text, told_refusal}
-use Rattle.wc_core.specs.State.{State, Act, Sends, Stepped, told_at}
+use Rattle.wc_servers.specs.Outs.{Out}
+use Rattle.wc_core.specs.State.{State, Act, Sends, outs_of, Stage, Stepped, told_at}
 use Rattle.wc_board.specs.Told.{Told}
 
 abbrev pub client_link : Client → ℕ
@@ -35,11 +36,23 @@ no_step state = record { state = state; acts = []; way = [] }
 
 -- the state becomes this one, and this is asked of the loop
 abbrev pub reach_step : State → List Act → Stepped
-reach_step state acts = record { state = state; acts = acts; way = state ∷ [] }
+reach_step state acts = record {
+  state = state;
+  acts = acts;
+  way = record { state = state; outs = outs_of acts } ∷ [];
+}
 
 -- the state becomes this one
 abbrev pub put_step : State → Stepped
 put_step state = reach_step state []
+
+-- what is come through after this went out
+abbrev pub after_out : Out → Stage → Stage
+after_out out stage = record stage { outs = out ∷ stage.outs }
+
+abbrev pub way_after : List Out → List Stage → List Stage
+way_after [] way = way
+way_after (out ∷ outs) way = map (after_out out) (way_after outs way)
 
 abbrev pub then_does : Stepped → (State → Stepped) → Stepped
 then_does first others = record {
@@ -47,7 +60,7 @@ then_does first others = record {
   acts = first.acts
       ++ (others first.state).acts;
   way = first.way
-      ++ (others first.state).way;
+      ++ way_after (outs_of first.acts) (others first.state).way;
 }
 
 -- messages for the client of a link

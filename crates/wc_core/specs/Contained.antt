@@ -11,11 +11,11 @@ use Rattle.wc_board.specs.Connections.{connection_link, is_open_at, leaving_on, 
 use Rattle.wc_board.specs.Served.{StaysOrStarves}
 use Rattle.wc_board.specs.Told.{Told}
 use Rattle.wc_eval.specs.Verdicts.{Oracle, Agrees}
-use Rattle.wc_servers.specs.Outs.{ServersFollow}
+use Rattle.wc_servers.specs.Outs.{Out, ServersFollow}
 use Rattle.wc_servers.specs.Seats.{open_of}
 use Rattle.wc_core.specs.BoardSteps.{board_of, StepsBy}
 use Rattle.wc_core.specs.CoreView.{CoreView}
-use Rattle.wc_core.specs.State.{State, Beside, beside, Stepped, has_end}
+use Rattle.wc_core.specs.State.{State, Beside, beside, Stage, Stepped, has_end}
 use Rattle.wc_core.specs.Served.{links_of, clients_of, state_of, WereTold, close_of, outs_of, Distinct}
 use Rattle.wc_core.specs.Served.{LeavesBy, Follows, KeepsClients}
 
@@ -64,30 +64,38 @@ pub record Holds (core : CoreView) (state : State) : Type 0 where
   pub same : state ≡ state_with core (rest_of state)
   pub told : WereTold core (beside state)
 
--- a state is the first one, or one that is come through after it
-abbrev pub IsOn : State → State → List State → Type 0
-IsOn state first [] = state ≡ first
-IsOn state first (next ∷ way) = (state ≡ first) ⊎ IsOn state next way
+-- where a step begins, and the stage that it comes to
+abbrev pub first_stage : State → Stage
+first_stage state = record { state = state; outs = [] }
 
--- the core came so far on this way
-pub record CameTo (core : CoreView) (first : State) (way : List State) : Type 0 where
-  pub state : State
-  pub is_on : IsOn state first way
-  pub holds : Holds core state
+abbrev pub last_stage : Stepped → Stage
+last_stage stepped = record { state = stepped.state; outs = outs_of stepped.acts }
+
+-- a stage is the first one, or one that is come through after it
+abbrev pub IsOn : Stage → Stage → List Stage → Type 0
+IsOn stage first [] = stage ≡ first
+IsOn stage first (next ∷ way) = (stage ≡ first) ⊎ IsOn stage next way
+
+-- the core came so far on this way from a state, and what went out for servers is that of the stage
+pub record CameTo (old new : CoreView) (first : State) (way : List Stage) : Type 0 where
+  pub stage : Stage
+  pub is_on : IsOn stage (first_stage first) way
+  pub holds : Holds new stage.state
+  pub servers : ServersFollow old.servers new.servers stage.outs
 
 -- All of a step is done, whoever was dropped meanwhile.
 pub record IsDone (told : Rest) (old new : CoreView) (stepped : Stepped) : Type 0 where
   pub holds : Holds new stepped.state
-  pub is_on : IsOn stepped.state (state_with old told) stepped.way
+  pub is_on : IsOn (last_stage stepped) (first_stage (state_with old told)) stepped.way
   pub oracle : stepped.state.oracle ≡ told.oracle
   pub quits : new.quits ≡ (old.quits || has_end stepped.acts)
   pub servers : ServersFollow old.servers new.servers (outs_of stepped.acts)
 
--- Where no input was cut short all of a step is done, and else a part of it, up to some state on its
+-- Where no input was cut short all of a step is done, and else a part of it, up to some stage on its
 -- way, and nothing after that. The run is to end only where the step has that.
 pub record IsContained (told : Rest) (old new : CoreView) (stepped : Stepped) : Type 0 where
   pub whole : new.cuts ≡ old.cuts → IsDone told old new stepped
-  pub part : CameTo new (state_with old told) stepped.way
+  pub part : CameTo old new (state_with old told) stepped.way
   pub quits : new.quits ≡ true → (old.quits || has_end stepped.acts) ≡ true
 
 -- the same of the step of each state that the core meant before
@@ -173,8 +181,10 @@ abbrev pub RunsHere : ℕ → CoreView → CoreView → (State → Stepped) → 
 RunsHere link old new step = (told : Beside) →
     RunsBy (Some link) (rest_in old told) old new (step (state_of old told))
 
--- memory was refused at the begin of an input, which is cut short, though it may have the run end
-pub record RanOutFor (own : Option ℕ) (ends : Bool) (old new : CoreView) : Type 0 where
+-- memory was refused at the begin of an input, which is cut short, though it may have the run end, and
+-- this may have gone out for servers before
+pub record RanOutFor (own : Option ℕ) (ends : Bool) (outs : List Out) (old new : CoreView) :
+    Type 0 where
   pub keeps : KeepsClients old new
   pub board : StepsBy own (board_of old) (board_of new)
   pub counts : Counts 0 old new
@@ -184,9 +194,10 @@ pub record RanOutFor (own : Option ℕ) (ends : Bool) (old new : CoreView) : Typ
   pub cut : old.cuts < 2 ^ 64 - 1 → old.cuts < new.cuts
   pub holds : (told : Rest) → WereTold old (beside_in told) → Holds new (state_with old told)
   pub quits : new.quits ≡ (old.quits || ends)
+  pub servers : ServersFollow old.servers new.servers outs
 
 abbrev pub RanOutOfMemory : CoreView → CoreView → Type 0
-RanOutOfMemory old new = RanOutFor None false old new
+RanOutOfMemory old new = RanOutFor None false [] old new
 
 -- The client of a link found no memory for what it asked: it leaves, unless it does already, and what
 -- it asked is cut short.

@@ -18,11 +18,12 @@ use Rattle.wc_board.specs.Connections.{connection_link, is_open, unsent_on, leav
 use Rattle.wc_board.specs.Served.{StaysOrStarves}
 use Rattle.wc_board.specs.Told.{told_of, AreTold}
 use Rattle.wc_eval.specs.Verdicts.{Agrees, Stay}
-use Rattle.wc_servers.specs.Outs.{Out, ServersFollow}
+use Rattle.wc_servers.specs.Outs.{ServersFollow}
 use Rattle.wc_servers.specs.Seats.{open_of, used_up}
 use Rattle.wc_core.specs.ServersKept.{ServersKeep, LeaveInOrder}
 use Rattle.wc_core.specs.State.{State, Beside, beside, Act, Sends, Closes, Serves, Quits, Stepped}
 use Rattle.wc_core.specs.State.{has_end}
+pub use Rattle.wc_core.specs.State.{outs_by, outs_of}
 
 abbrev pub links_of : CoreView → List ℕ
 links_of core = map connection_link core.connections
@@ -101,17 +102,6 @@ close_by link Quits = None
 abbrev pub close_of : ℕ → List Act → Option Cause
 close_of link [] = None
 close_of link (act ∷ acts) = or_else (close_by link act) (close_of link acts)
-
-abbrev pub outs_by : Act → List Out
-outs_by (Sends to m) = []
-outs_by (Closes to cause) = []
-outs_by (Serves out) = out ∷ []
-outs_by Quits = []
-
--- what is to go out for servers
-abbrev pub outs_of : List Act → List Out
-outs_of [] = []
-outs_of (act ∷ acts) = outs_by act ++ outs_of acts
 
 -- ---- what is done
 

@@ -31,11 +31,11 @@ use Rattle.wc_servers.specs.Texts.{is_change_text}
 use Rattle.wc_core.specs.Changing.{no_step, put_step, reach_step, then_does, change_step}
 use Rattle.wc_core.specs.Changing.{change_step_if, refusal_step}
 use Rattle.wc_core.specs.Resolved.{change_of, null, refusal_text}
-use Rattle.wc_core.specs.State.{State, Serves, Quits, Stepped}
+use Rattle.wc_core.specs.State.{State, Serves, Quits, Stage, Stepped}
 
 -- something is to go out for a server
 abbrev pub out_step : State → Out → Stepped
-out_step state out = record { state = state; acts = Serves out ∷ []; way = [] }
+out_step state out = reach_step state (Serves out ∷ [])
 
 -- ---- acts, one by one
 
@@ -171,10 +171,17 @@ abbrev pub before_step : State → Change → Stepped
 before_step state change = if is_close change.what
     then parting_step state change.buffer (server_of state change.buffer) else no_step state
 
+-- servers are told one after another, after this went out
+abbrev pub quit_way : State → List Out → List ServerSeat → List Stage
+quit_way state outs [] = []
+quit_way state outs (seat ∷ seats) =
+    record { state = state; outs = outs ++ quit_outs seat }
+    ∷ quit_way state (outs ++ quit_outs seat) seats
+
 -- QUIT to each server whose link stands, and then the run is to end
 abbrev pub quit_step : State → Stepped
 quit_step state = record {
   state = state;
   acts = map Serves (flat_map quit_outs state.servers) ++ Quits ∷ [];
-  way = [];
+  way = quit_way state [] state.servers;
 }

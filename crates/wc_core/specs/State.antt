@@ -1,5 +1,5 @@
 -- What the core is, seen flat.
-use Rattle.std.specs.Prelude.{ℕ, Bool, true, false, ◌||◌, List, [], ◌∷◌, Option, None}
+use Rattle.std.specs.Prelude.{ℕ, Bool, true, false, ◌||◌, List, [], ◌∷◌, ◌++◌, Option, None}
 use Rattle.wc_text.specs.declared.names.Cause.{Cause}
 use Rattle.wc_options.specs.Options.{OptionsValue}
 use Rattle.wc_nicklist.specs.declared.item.Row.{Row}
@@ -65,11 +65,28 @@ abbrev pub has_end : List Act → Bool
 has_end [] = false
 has_end (act ∷ acts) = is_end act || has_end acts
 
--- what a step comes to, and the states that it comes through, one after each change, up to the last
+abbrev pub outs_by : Act → List Out
+outs_by (Sends to m) = []
+outs_by (Closes to cause) = []
+outs_by (Serves out) = out ∷ []
+outs_by Quits = []
+
+-- what is to go out for servers
+abbrev pub outs_of : List Act → List Out
+outs_of [] = []
+outs_of (act ∷ acts) = outs_by act ++ outs_of acts
+
+-- a state, and what went out for servers by then
+pub record Stage : Type 0 where
+  pub state : State
+  pub outs : List Out
+
+-- what a step comes to, and the stages that it comes through, one after each change and each line for
+-- a server, up to the last
 pub record Stepped : Type 0 where
   pub state : State
   pub acts : List Act
-  pub way : List State
+  pub way : List Stage
 
 -- no client, and the core buffer alone, whose lines are bounded, before these commands are run
 abbrev pub first_state : Oracle → OptionsValue → ℕ → List (List ℕ) → State

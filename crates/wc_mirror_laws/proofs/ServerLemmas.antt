@@ -28,7 +28,7 @@ use Rattle.wc_servers.specs.Outs.{Out, SendsLine, Parts, quit_outs}
 use Rattle.wc_servers.specs.Seats.{ServerSeat, server_link, ended}
 use Rattle.wc_servers.specs.Texts.{is_change_text}
 use Rattle.wc_core.specs.Resolved.{change_of, null, refusal_text}
-use Rattle.wc_core.specs.State.{State, Act, Serves, Quits, Stepped}
+use Rattle.wc_core.specs.State.{State, Act, Serves, Quits, Stage, Stepped}
 use Rattle.wc_core.specs.Step.{no_step, change_step_if, refusal_step}
 use Rattle.wc_core.specs.Served.{messages_to}
 use Rattle.wc_core.specs.ServerSteps.{dated, say_step, told_step_if, try_step, on_step, send_step, act_step, acts_step, leave_server, server_loss_step, leave_in, loss_step_if, server_acts_step, with_server, message_step, server_line_step, stands_step, server_of, parting_step, before_step, quit_step}
@@ -61,7 +61,7 @@ module _ (which : HeldPart) (limit link : ℕ) (id : List ℕ) (free : BeginsWit
   Does state stepped = Tells which limit link id state stepped
 
   -- nor in what is held
-  pub Tells-aside : {way : List State} (state : State) (options : OptionsValue) (servers : List ServerSeat) (used : ℕ) (acts : List Act) → messages_to link acts ≡ [] → Kept state
+  pub Tells-aside : {way : List Stage} (state : State) (options : OptionsValue) (servers : List ServerSeat) (used : ℕ) (acts : List Act) → messages_to link acts ≡ [] → Kept state
       → Does state (record { state = record state { options = options; servers = servers; used = used }; acts = acts; way = way })
   Tells-aside {way} state options servers used acts none kept =
       let next : State = record state { options = options; servers = servers; used = used } in

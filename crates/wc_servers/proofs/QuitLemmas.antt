@@ -1,5 +1,5 @@
 -- Servers that are told that the run ends.
-use Rattle.std.proofs.Common.{◌≡◌, ℕ, ◌⊎◌, inl, inr, Bool, true, false, cond, eqb, List, [], ◌∷◌, ◌++◌, Option, Some, None, IsSome, is_some, is_none, refl, ap, sym, subst, ◌∙◌, arith, append-nil}
+use Rattle.std.proofs.Common.{◌≡◌, ℕ, zero, suc, take, drop, length, ◌⊎◌, inl, inr, Bool, true, false, cond, eqb, List, [], ◌∷◌, ◌++◌, Option, Some, None, IsSome, is_some, is_none, refl, ap, sym, subst, ◌∙◌, arith, append-nil}
 use Rattle.std.specs.Prelude.{map, flat_map}
 use Rattle.wc_text.specs.declared.names.Cause.{Cause}
 use Rattle.wc_outside.specs.Keyed.{at_key}
@@ -7,7 +7,7 @@ use Rattle.wc_irc.specs.CloseActs.{quit_line}
 use Rattle.wc_irc.specs.declared.act.Act.{Act}
 use Rattle.wc_irc.specs.declared.act.Act.TheVariants as act
 use Rattle.wc_servers.specs.Outs.{Out, lines_to, part_of, wanted_in, or_else, first_line, quit_outs, ServersFollow, ServersKeep}
-use Rattle.wc_servers.specs.Seats.{SeatView, ServersView, ServerSeat, seat_link, is_open, seat_of, open_of, unsent_in, unsent_on, leaving_in, leaving_on, NotAmong, AreApart, links_of, told_first, quitting, MayQuit, ended}
+use Rattle.wc_servers.specs.Seats.{SeatView, ServersView, ServerSeat, seat_link, is_open, seat_of, open_of, unsent_in, unsent_on, leaving_in, leaving_on, NotAmong, AreApart, links_of, told_first, quitting, QuitFront, ended}
 use Rattle.wc_servers.proofs.OutLemmas.{lines_to-append, or_else-none, same_number, part_of-append, wanted_in-append}
 
 abbrev no_bytes : List ℕ
@@ -95,6 +95,12 @@ pub quitting_shut : (x : SeatView) → is_open x ≡ false → quitting x ≡ x
 quitting_shut x shut = ap (λ b. cond b (told_first (quit_line x.server) x) x) shut
 
 -- each is told or stays
+abbrev pub MayQuit : List SeatView → List SeatView → Type 0
+MayQuit [] [] = Unit {0}
+MayQuit [] (b ∷ new) = ⊥
+MayQuit (a ∷ old) [] = ⊥
+MayQuit (a ∷ old) (b ∷ new) = ((b ≡ a) ⊎ (b ≡ quitting a)) × MayQuit old new
+
 pub may_quit_links : (old new : List SeatView) → MayQuit old new → links_of new ≡ links_of old
 may_quit_links [] [] m = refl
 may_quit_links [] (b ∷ new) m = absurd m
@@ -124,6 +130,22 @@ may_quit_open (a ∷ old) (b ∷ new) m = ap (λ t. cond t (seat_of b ∷ open_o
 pub may_quit_all : (seats : List SeatView) → MayQuit seats (map quitting seats)
 may_quit_all [] = tt
 may_quit_all (x ∷ seats) = (inr refl, may_quit_all seats)
+
+may_quit_none : (seats : List SeatView) → MayQuit seats seats
+may_quit_none [] = tt
+may_quit_none (x ∷ seats) = (inl refl, may_quit_none seats)
+
+-- the seats after so many were told
+abbrev pub told_front : ℕ → List SeatView → List SeatView
+told_front i seats = map quitting (take i seats) ++ drop i seats
+
+may_quit_some : (i : ℕ) (seats : List SeatView) → MayQuit seats (told_front i seats)
+may_quit_some zero seats = may_quit_none seats
+may_quit_some (suc i) [] = tt
+may_quit_some (suc i) (x ∷ seats) = (inr refl, may_quit_some i seats)
+
+pub may_quit_front : (old new : List SeatView) → QuitFront old new → MayQuit old new
+may_quit_front old new f = let P : List SeatView → Type 0 = λ seats. MayQuit old seats in subst P (sym f.told) (may_quit_some f.count old)
 
 keeps_by : (j : ℕ) (old new : List SeatView) → MayQuit old new → (is_some (at_key seat_link j new) ≡ is_some (at_key seat_link j old)) × (IsSome (leaving_on j old) → at_key seat_link j new ≡ at_key seat_link j old)
 keeps_by j [] [] m = (refl, λ s. refl)
@@ -162,7 +184,12 @@ quit-keeps old new m e = record {
   wanted = ap (λ (v : ServersView). v.wanted) e ∙ sym (append-nil _);
 }
 
--- ---- all of them are told
+-- ---- so many of them are told
+
+not_among_front : (i j : ℕ) (seats : List SeatView) → NotAmong j (links_of seats) → NotAmong j (links_of (take i seats))
+not_among_front zero j seats absent = tt
+not_among_front (suc i) j [] absent = tt
+not_among_front (suc i) j (x ∷ seats) absent = (absent.0, not_among_front i j seats absent.1)
 
 none_to : (j : ℕ) (seats : List SeatView) → NotAmong j (links_of seats) → lines_to j (flat_map quit_outs (open_of seats)) ≡ []
 none_to j [] absent = refl
@@ -177,16 +204,21 @@ none_to j (x ∷ seats) absent = by (is_open x) (none_to j seats absent.1) where
   by true more = lines_to-append j (quit_outs (seat_of x)) (flat_map quit_outs (open_of seats)) ∙ ap (λ t. t ++ lines_to j (flat_map quit_outs (open_of seats))) (no_line x.link j (quit_line x.server) other) ∙ more
   by false more = more
 
-all_lines : (j : ℕ) (seats : List SeatView) → AreApart (links_of seats) → unsent_on j (map quitting seats) ≡ unsent_on j seats ++ lines_to j (flat_map quit_outs (open_of seats))
-all_lines j [] apart = refl
-all_lines j (x ∷ seats) apart = ap (λ n. unsent_in (cond (eqb n j) (Some (quitting x)) (at_key seat_link j (map quitting seats)))) (quitting_link x) ∙ by (all_lines j seats apart.1) (is_open x) (eqb x.link j) refl where
+-- what they were told
+abbrev pub said_front : ℕ → List SeatView → List Out
+said_front i seats = flat_map quit_outs (open_of (take i seats))
+
+front_lines : (j i : ℕ) (seats : List SeatView) → AreApart (links_of seats) → unsent_on j (told_front i seats) ≡ unsent_on j seats ++ lines_to j (said_front i seats)
+front_lines j zero seats apart = sym (append-nil _)
+front_lines j (suc i) [] apart = refl
+front_lines j (suc i) (x ∷ seats) apart = ap (λ n. unsent_in (cond (eqb n j) (Some (quitting x)) (at_key seat_link j (told_front i seats)))) (quitting_link x) ∙ by (front_lines j i seats apart.1) (is_open x) (eqb x.link j) refl where
   rest : List Out
-  rest = flat_map quit_outs (open_of seats)
+  rest = said_front i seats
 
   none : eqb x.link j ≡ true → lines_to j rest ≡ []
-  none e = none_to j seats (subst (λ n. NotAmong n (links_of seats)) (same_number x.link j e) apart.0)
+  none e = none_to j (take i seats) (not_among_front i j seats (subst (λ n. NotAmong n (links_of seats)) (same_number x.link j e) apart.0))
 
-  by : unsent_on j (map quitting seats) ≡ unsent_on j seats ++ lines_to j rest → (b t : Bool) → eqb x.link j ≡ t → unsent_in (cond t (Some (cond b (told_first (quit_line x.server) x) x)) (at_key seat_link j (map quitting seats))) ≡ unsent_in (cond t (Some x) (at_key seat_link j seats)) ++ lines_to j (flat_map quit_outs (cond b (seat_of x ∷ open_of seats) (open_of seats)))
+  by : unsent_on j (told_front i seats) ≡ unsent_on j seats ++ lines_to j rest → (b t : Bool) → eqb x.link j ≡ t → unsent_in (cond t (Some (cond b (told_first (quit_line x.server) x) x)) (at_key seat_link j (told_front i seats))) ≡ unsent_in (cond t (Some x) (at_key seat_link j seats)) ++ lines_to j (flat_map quit_outs (cond b (seat_of x ∷ open_of (take i seats)) (open_of (take i seats))))
   by more true true e =
       one_line x.link j (quit_line x.server) x e ∙ ap (λ t. x.unsent ++ t) (sym (append-nil _) ∙ ap (λ t. lines_to j (quit_outs (seat_of x)) ++ t) (sym (none e)) ∙ sym (lines_to-append j (quit_outs (seat_of x)) rest))
   by more true false e =
@@ -202,16 +234,34 @@ none_wanted : (servers : List ServerSeat) → wanted_in (flat_map quit_outs serv
 none_wanted [] = refl
 none_wanted (s ∷ servers) = wanted_in-append (quit_outs s) (flat_map quit_outs servers) ∙ ap (λ t. t ++ wanted_in (flat_map quit_outs servers)) (no_wanted s.link (quit_line s.server)) ∙ none_wanted servers
 
-all_leaving : (j : ℕ) (seats : List SeatView) → leaving_on j (map quitting seats) ≡ leaving_on j seats
-all_leaving j [] = refl
-all_leaving j (x ∷ seats) = ap (λ n. leaving_in (cond (eqb n j) (Some (quitting x)) (at_key seat_link j (map quitting seats)))) (quitting_link x) ∙ by (all_leaving j seats) (eqb x.link j) where
-  by : leaving_on j (map quitting seats) ≡ leaving_on j seats → (t : Bool) → leaving_in (cond t (Some (quitting x)) (at_key seat_link j (map quitting seats))) ≡ leaving_in (cond t (Some x) (at_key seat_link j seats))
+front_leaving : (j i : ℕ) (seats : List SeatView) → leaving_on j (told_front i seats) ≡ leaving_on j seats
+front_leaving j zero seats = refl
+front_leaving j (suc i) [] = refl
+front_leaving j (suc i) (x ∷ seats) = ap (λ n. leaving_in (cond (eqb n j) (Some (quitting x)) (at_key seat_link j (told_front i seats)))) (quitting_link x) ∙ by (front_leaving j i seats) (eqb x.link j) where
+  by : leaving_on j (told_front i seats) ≡ leaving_on j seats → (t : Bool) → leaving_in (cond t (Some (quitting x)) (at_key seat_link j (told_front i seats))) ≡ leaving_in (cond t (Some x) (at_key seat_link j seats))
   by more true = quitting_leaving x
   by more false = more
 
-pub quit-follows : (old : ServersView) → AreApart (links_of old.seats) → ServersFollow old (record old { seats = map quitting old.seats }) (flat_map quit_outs (open_of old.seats))
-quit-follows old apart = record {
-  lines = λ j. all_lines j old.seats apart;
-  leaving = λ j. all_leaving j old.seats ∙ sym (or_else-none _) ∙ ap (or_else (leaving_on j old.seats)) (sym (no_parts j (open_of old.seats)));
-  wanted = sym (append-nil _) ∙ ap (λ t. old.wanted ++ t) (sym (none_wanted (open_of old.seats)));
+pub front-follows : (i : ℕ) (old : ServersView) → AreApart (links_of old.seats) → ServersFollow old (record old { seats = told_front i old.seats }) (said_front i old.seats)
+front-follows i old apart = record {
+  lines = λ j. front_lines j i old.seats apart;
+  leaving = λ j. front_leaving j i old.seats ∙ sym (or_else-none _) ∙ ap (or_else (leaving_on j old.seats)) (sym (no_parts j (open_of (take i old.seats))));
+  wanted = sym (append-nil _) ∙ ap (λ t. old.wanted ++ t) (sym (none_wanted (open_of (take i old.seats))));
 }
+
+-- all of them are
+take_all : (seats : List SeatView) → take (length seats) seats ≡ seats
+take_all [] = refl
+take_all (x ∷ seats) = ap (λ l. x ∷ l) (take_all seats)
+
+drop_all : (seats : List SeatView) → drop (length seats) seats ≡ []
+drop_all [] = refl
+drop_all (x ∷ seats) = drop_all seats
+
+pub quit-follows : (old : ServersView) → AreApart (links_of old.seats) → ServersFollow old (record old { seats = map quitting old.seats }) (flat_map quit_outs (open_of old.seats))
+quit-follows old apart =
+    let n = length old.seats in
+    let P : List SeatView → Type 0 = λ seats. ServersFollow old (record old { seats = map quitting seats ++ drop n old.seats }) (flat_map quit_outs (open_of seats)) in
+    let Q : List SeatView → Type 0 = λ rest. ServersFollow old (record old { seats = map quitting old.seats ++ rest }) (flat_map quit_outs (open_of old.seats)) in
+    let R : List SeatView → Type 0 = λ seats. ServersFollow old (record old { seats = seats }) (flat_map quit_outs (open_of old.seats)) in
+    subst R (append-nil (map quitting old.seats)) (subst Q (drop_all old.seats) (subst P (take_all old.seats) (front-follows n old apart)))

@@ -1,6 +1,6 @@
 -- The servers that have a link, and what is done to them.
-use Rattle.std.specs.Prelude.{◌≡◌, ℕ, ◌+◌, ◌≤◌, ◌⊎◌, max, Bool, true, false, is_none}
-use Rattle.std.specs.Prelude.{List, [], ◌∷◌, ◌++◌, map, drop, find, bytes_eq, Option, Some, None}
+use Rattle.std.specs.Prelude.{◌≡◌, ℕ, ◌+◌, ◌≤◌, max, Bool, true, false, is_none}
+use Rattle.std.specs.Prelude.{List, [], ◌∷◌, ◌++◌, map, take, drop, find, bytes_eq, Option, Some, None}
 use Rattle.std.specs.Prelude.{if◌then◌else◌, nat_lt, nat_le}
 use Rattle.wc_text.specs.declared.names.Cause.{Cause}
 use Rattle.wc_outside.specs.Keyed.{at_key, put_at, without}
@@ -199,12 +199,10 @@ told_first (_ ∷ acts) seat = seat
 abbrev pub quitting : SeatView → SeatView
 quitting seat = if is_open seat then told_first (quit_line seat.server) seat else seat
 
--- each one is told that, or stays as it is
-abbrev pub MayQuit : List SeatView → List SeatView → Type 0
-MayQuit [] [] = Unit {0}
-MayQuit [] (b ∷ new) = ⊥
-MayQuit (a ∷ old) [] = ⊥
-MayQuit (a ∷ old) (b ∷ new) = ((b ≡ a) ⊎ (b ≡ quitting a)) × MayQuit old new
+-- so many of them are told that, one after another, and the others stay as they are
+pub record QuitFront (old new : List SeatView) : Type 0 where
+  pub count : ℕ
+  pub told : new ≡ map quitting (take count old) ++ drop count old
 
 abbrev pub forgotten : ℕ → ServersView → ServersView
 forgotten link servers = record servers { seats = without seat_link link servers.seats }

@@ -7,7 +7,7 @@ ghost use Rattle.wc_ircmsg.specs.Utf8.{MessageIsUtf8};
 ghost use Rattle.wc_outside.specs.Keyed.{at_key, without, PlaceOf};
 ghost use Rattle.wc_servers.specs.Lost.{Stood, Took, Lost};
 ghost use Rattle.wc_servers.specs.Seats.{seat_link, links_of, told_at, gone_at, is_open_at};
-ghost use Rattle.wc_servers.specs.Seats.{unsent_at, first_leaving, earlier_of, quitting, MayQuit};
+ghost use Rattle.wc_servers.specs.Seats.{unsent_at, first_leaving, earlier_of, quitting, QuitFront};
 
 use crate::seat::Seat;
 use std::alloc::Global;
@@ -127,16 +127,16 @@ pub(crate) fn drop_seat(seats: &mut Vec<Seat>, link: LinkId)
     seats.retain(|seat| seat.link() != link);
 }
 
-/// Tells each of them that the run ends. False where one finds no memory for that.
+/// Tells them one after another that the run ends, up to one that finds no memory for that. It
+/// answers whether all were told.
 pub(crate) fn quit_all(seats: &mut [Seat], alloc: Global) -> bool
     ensures told { result ≡ true → seats.new ≡ map quitting seats.old }
-    ensures each { MayQuit seats.old seats.new }
+    ensures front { QuitFront seats.old seats.new }
     ensures links { links_of seats.new ≡ links_of seats.old }
 {
     let mut told = true;
     for seat in seats.iter_mut() {
-        let heard = seat.quit(alloc);
-        told &= heard;
+        told = told && seat.quit(alloc);
     }
     told
 }

@@ -7,7 +7,7 @@ ghost use Rattle.wc_ircmsg.specs.Utf8.{MessageIsUtf8};
 ghost use Rattle.wc_outside.specs.Keyed.{at_key};
 ghost use Rattle.wc_servers.specs.Lost.{Stood, Took, Lost};
 ghost use Rattle.wc_servers.specs.Seats.{seat_link, told_at, gone_at, forgotten, is_open_at};
-ghost use Rattle.wc_servers.specs.Seats.{unsent_at, first_leaving, quitting, MayQuit};
+ghost use Rattle.wc_servers.specs.Seats.{unsent_at, first_leaving, quitting, QuitFront};
 
 use crate::places::{
     drop_seat, first_leaving, gone_at, lose_at, quit_all, seat_place, stand_at, take_at, tell_at,
@@ -84,7 +84,7 @@ impl Servers {
     pub fn quit(&mut self) -> bool
         ensures told { result ≡ true →
             self.new ≡ record self.old { seats = map quitting self.old.seats } }
-        ensures each { MayQuit self.old.seats self.new.seats }
+        ensures front { QuitFront self.old.seats self.new.seats }
         ensures others { self.new ≡ record self.old { seats = self.new.seats } }
     {
         quit_all(&mut self.seats, self.alloc)

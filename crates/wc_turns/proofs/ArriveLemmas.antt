@@ -8,7 +8,7 @@ use Rattle.wc_outside.specs.Keyed.{at_key, without}
 use Rattle.wc_board.specs.declared.connection.Connection.{Connection}
 use Rattle.wc_core.specs.Events.{Arrives}
 use Rattle.wc_core.specs.CoreView.{CoreView}
-use Rattle.wc_core.specs.State.{State, Act, Stepped}
+use Rattle.wc_core.specs.State.{State, Act, Stage, Stepped, outs_of}
 use Rattle.wc_core.specs.Step.{step}
 use Rattle.wc_core.specs.Changing.{reach_step}
 use Rattle.wc_options.specs.Options.{OptionsValue}
@@ -44,16 +44,20 @@ refused-as old new link starved e = e ∙ ap (λ (n : ℕ). record old { servers
 pub calm-as : (old new : CoreView) (link : ℕ) → new ≡ record old { servers = used_up link old.servers; starved = new.starved } → IsCalm old → IsCalm new
 calm-as old new link e calm = record { parted = ap closes_asked e ∙ calm.parted; asked = ap (λ c. c.servers.wanted) e ∙ calm.asked }
 
-stepped-same : (p : Stepped) (state : State) (acts : List Act) → p.state ≡ state → p.acts ≡ acts → p.way ≡ p.state ∷ [] → p ≡ reach_step state acts
+-- the one stage that a step comes through
+abbrev way_of : Stepped → List Stage
+way_of p = record { state = p.state; outs = outs_of p.acts } ∷ []
+
+stepped-same : (p : Stepped) (state : State) (acts : List Act) → p.state ≡ state → p.acts ≡ acts → p.way ≡ way_of p → p ≡ reach_step state acts
 stepped-same p state acts e f g =
-    let of : List State → Stepped = λ way. record { state = p.state; acts = p.acts; way = way } in
+    let of : List Stage → Stepped = λ way. record { state = p.state; acts = p.acts; way = way } in
     ap of g ∙ ap (λ s. reach_step s p.acts) e ∙ ap (reach_step state) f
 
 -- no other state is come through
-arrival-way : (state : State) (link : ℕ) (nonce : List ℕ) → (step state (Arrives link nonce)).way ≡ (step state (Arrives link nonce)).state ∷ []
+arrival-way : (state : State) (link : ℕ) (nonce : List ℕ) → (step state (Arrives link nonce)).way ≡ way_of (step state (Arrives link nonce))
 arrival-way state link nonce = by (nat_lt (length state.clients) (client_limit state.options)) _ _ refl refl
   where
-    by : (t : Bool) (x y : Stepped) → x.way ≡ x.state ∷ [] → y.way ≡ y.state ∷ [] → (cond t x y).way ≡ (cond t x y).state ∷ []
+    by : (t : Bool) (x y : Stepped) → x.way ≡ way_of x → y.way ≡ way_of y → (cond t x y).way ≡ way_of (cond t x y)
     by true x y p q = p
     by false x y p q = q
 

@@ -35,7 +35,7 @@ use Rattle.wc_servers.proofs.OutLemmas.{part_of-append}
 use Rattle.wc_core.proofs.ComeLemmas.{parts_in-append}
 use Rattle.wc_core.proofs.ServerCloses.{server_line-closes, server_loss-closes, stands-closes}
 use Rattle.wc_core.specs.Typed.{lines_of_text}
-use Rattle.wc_core.specs.State.{State, Act, Sends, Closes, Serves, Quits, Stepped}
+use Rattle.wc_core.specs.State.{State, Act, Sends, Closes, Serves, Quits, Stage, Stepped}
 use Rattle.wc_core.specs.Step.{step, run, no_step, then_does, push_step, reply_step as answered, outcome_step, leave_step, sends, request_step, answer_step, link_line_step, link_loss_step, client_link}
 use Rattle.wc_core.specs.Served.{or_else, close_of, outs_of}
 use Rattle.wc_board.specs.Answered.{is_nicklist}
@@ -120,7 +120,7 @@ follows-one link state (outcome.Leave why) = leaves-one link state why
 follows-one link state outcome.NoMemory = stays-one link state
 
 -- acts in front that close nothing
-front-one : (link : ℕ) (front : List Act) (stepped : Stepped) (way : List State) → ((k : ℕ) → close_of k front ≡ None) → StepsOne link stepped → StepsOne link (record { state = stepped.state; acts = front ++ stepped.acts; way = way })
+front-one : (link : ℕ) (front : List Act) (stepped : Stepped) (way : List Stage) → ((k : ℕ) → close_of k front ≡ None) → StepsOne link stepped → StepsOne link (record { state = stepped.state; acts = front ++ stepped.acts; way = way })
 front-one link front stepped way none h =
     let same : (k : ℕ) → close_of k (front ++ stepped.acts) ≡ close_of k stepped.acts = λ k. close_of-append k front stepped.acts ∙ ap (λ o. or_else o (close_of k stepped.acts)) (none k) in
     record {

@@ -6,7 +6,8 @@ use Rattle.std.proofs.lemmas.List.{append-nil}
 use Rattle.wc_text.specs.declared.names.Cause.{Cause}
 use Rattle.wc_core.specs.Events.{Event, Line}
 use Rattle.wc_core.specs.CoreView.{CoreView}
-use Rattle.wc_core.specs.State.{State, Act, has_end}
+use Rattle.wc_core.specs.State.{State, Act, Stage, has_end}
+use Rattle.wc_core.specs.Changing.{way_after}
 use Rattle.wc_core.specs.Step.{step, run}
 use Rattle.wc_core.specs.Served.{links_of, state_of, WereTold, Means, sent_to, outs_of, close_of, or_else, Distinct, Follows, FollowsUnlessStarved, Does, LeavesBy, plain_beside}
 use Rattle.wc_board.specs.Connections.{leaving_in, leaving_on, unsent_on}
@@ -24,7 +25,7 @@ use Rattle.wc_core.proofs.OracleLemmas.{Agrees-before}
 use Rattle.wc_turns.specs.Goes.{TakesEvent}
 use Rattle.wc_turns.proofs.GoesLemmas.{Goes-same, Goes-one, Goes-both}
 
-pub Follows-acts : (told : Beside) (a b : CoreView) (state : State) (acts acts' : List Act) (way way' : List State) → acts ≡ acts' → Follows told a b (record { state = state; acts = acts; way = way }) → Follows told a b (record { state = state; acts = acts'; way = way' })
+pub Follows-acts : (told : Beside) (a b : CoreView) (state : State) (acts acts' : List Act) (way way' : List Stage) → acts ≡ acts' → Follows told a b (record { state = state; acts = acts; way = way }) → Follows told a b (record { state = state; acts = acts'; way = way' })
 Follows-acts told a b state acts acts' way way' e did =
     let g = subst (λ xs. Follows told a b (record { state = state; acts = xs; way = way })) e did in
     record { means = g.means; oracle = g.oracle; bytes = g.bytes; leaving = g.leaving; quits = g.quits; servers = g.servers; parts = g.parts }
@@ -55,7 +56,7 @@ pub MayRun-one : (a b : CoreView) (event : Event) → Does a b (λ state. step s
 MayRun-one a b event h takes = record {
   keeps = (h (plain_beside a)).keeps;
   goes = Goes-one event a b takes;
-  does = λ same below distinct told were agrees. (let s = step (state_of a told) event in Follows-acts told a b s.state s.acts (s.acts ++ []) s.way (s.way ++ []) (sym (append-nil s.acts)) ((h told).does same below distinct were agrees));
+  does = λ same below distinct told were agrees. (let s = step (state_of a told) event in Follows-acts told a b s.state s.acts (s.acts ++ []) s.way (s.way ++ way_after (outs_of s.acts) []) (sym (append-nil s.acts)) ((h told).does same below distinct were agrees));
   stops = λ same below distinct told were agrees. EndsAtQuit-one (state_of a told) (event ∷ []) refl;
 }
 

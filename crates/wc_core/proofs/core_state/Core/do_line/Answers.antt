@@ -2,6 +2,9 @@ use Rattle.wc_core.proofs.RunLemmas.{Runs-stays}
 use Rattle.std.proofs.Common.{ap, sym, ◌∙◌, subst}
 use Rattle.wc_buffers.specs.Kept.{AreBuffers}
 use Rattle.wc_model.specs.World.{World}
+use Rattle.wc_core.specs.Contained.{Runs}
+use Rattle.wc_core.specs.CoreView.{CoreView}
+use Rattle.wc_core.specs.ServerSteps.{quit_step}
 use Rattle.wc_core.specs.Resolved.{effect_of, Asks, Ends, SavesOptions, SetsOption, Stays, Tells, UnsetsOption}
 use Rattle.wc_core.specs.Typed.{typed_line}
 use Rattle.wc_core.specs.TypedSeen.{meaning}
@@ -45,10 +48,11 @@ returns-in-Ok-SavesOptions c =
 pub returns-in-Ok-Ends : goal.returns-in-Ok-Ends
 returns-in-Ok-Ends c =
     let typed = meaning c.read_typed-asked.result in
+    let P : CoreView → Type 0 = λ core. Runs core c.quit.new.self quit_step in
     rw (← c.self.view_is) (does-resolved _ c.quit.new.self c.args.buffer (typed_line c.args.line.now) Ends
     (rw c.in-Ok-Ends.field-0-is at c.in-Ok-Ends.ensures ∙ ap (λ (w : World). effect_of w c.self.inside.moment c.args.buffer typed) c.world-2.ensures.world
     ∙ ap (effect_of c.self.inside.board.world c.self.inside.moment c.args.buffer) c.read_typed-asked.ensures)
-    (rw (← c.self.view_is) at c.quit.ensures))
+    (subst P (sym c.self.view_is) c.quit.ensures))
 
 pub returns-in-Err : goal.returns-in-Err
 returns-in-Err c = λ told. starves-as c.args.self.now c.starve.new.self c.starve.ensures.counts c.starve.ensures.rises told _
