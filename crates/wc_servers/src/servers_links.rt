@@ -79,8 +79,8 @@ impl Servers {
         lose_at(&mut self.seats, self.alloc, link, cause, rank, buffers)
     }
 
-    /// Tells each server whose link stands that the run ends. False where one finds no memory for
-    /// that: it stays as it was.
+    /// Tells the servers whose links stand that the run ends, one after another. False where one
+    /// finds no memory for that: it and those after it stay as they were.
     pub fn quit(&mut self) -> bool
         ensures told { result ≡ true →
             self.new ≡ record self.old { seats = map quitting self.old.seats } }
