@@ -10,11 +10,11 @@ use Rattle.wc_outside.specs.Seen.{Seen}
 use Rattle.wc_turns.specs.Parts.{AsksWanted, leaving_of, ClosesLeaving, Settles}
 use Rattle.wc_turns.proofs.SourceLemmas.{NothingBecameReady-refl, TakesNothing-refl, NothingBecameReady-trans, TakesNothing-trans}
 use Rattle.wc_turns.proofs.ContainedLemmas.{KeepsLinks-refl, KeepsLinks-trans}
-use Rattle.std.proofs.Common.{IsTrue, IsSome, append-nil, ◌≡◌, ◌∙◌, ◌⊎◌, ◌≢◌, ◌++◌, ◌∷◌, ◌+◌, ◌^◌, ◌≤◌, ◌<◌, ◌&&◌, ◌||◌, inl, inr, [], refl, sym, ap, subst, Bool, true, false, ℕ, List, Option, None, Some, not, eqb, length, arith, is_some, map}
-use Rattle.wc_servers.specs.Seats.{SeatView, seat_link, unsent_at as server_unsent_at}
-use Rattle.wc_turns.specs.Parties.{has_party, party_count, closes_asked, IsCalm}
+use Rattle.std.proofs.Common.{IsTrue, IsSome, append-nil, ◌≡◌, ◌∙◌, ◌⊎◌, ◌≢◌, ◌++◌, ◌∷◌, ◌+◌, ◌^◌, ◌≤◌, ◌<◌, ◌&&◌, ◌||◌, inl, inr, [], refl, sym, ap, subst, Bool, true, false, ℕ, List, Option, None, Some, not, eqb, length, arith, is_none, is_some, map}
+use Rattle.wc_servers.specs.Seats.{SeatView, seat_link, leaving_in as seat_leaving_in, is_open_at as is_seat_open, unsent_at as server_unsent_at}
+use Rattle.wc_turns.specs.Parties.{has_party, has_open, party_count, closes_asked, IsCalm}
 use Rattle.wc_core.specs.Served.{or_else}
-use Rattle.wc_board.specs.Connections.{leaving_on, unsent_at, connection_link}
+use Rattle.wc_board.specs.Connections.{leaving_in, leaving_on, is_open_at, unsent_at, connection_link}
 use Rattle.wc_turns.proofs.SeatLemmas.{seats-still}
 use Rattle.wc_turns.proofs.PartyLemmas.{calm-seats, calm-clients}
 use Rattle.wc_turns.proofs.ConnectionLemmas.{calm-leaving}
@@ -72,6 +72,15 @@ calm-why core calm k =
     let asked : IsCalm (with_wanted [] core) = record { parted = calm; asked = refl } in
     ap (λ o. or_else o (leaving_on k core.connections)) (seats-still core.servers.seats (calm-seats (with_wanted [] core) asked) k)
     ∙ calm-leaving k core.connections (calm-clients (with_wanted [] core) asked)
+
+-- and who is at a link is open
+pub calm-open : (k : ℕ) (core : CoreView) → IsCalm core → has_party k core ≡ true → has_open k core ≡ true
+calm-open k core calm there = by (at_key connection_link k core.connections) (at_key seat_link k core.servers.seats) (calm-leaving k core.connections (calm-clients core calm)) (seats-still core.servers.seats (calm-seats core calm) k) there
+  where
+    by : (o : Option Connection) (p : Option SeatView) → leaving_in o ≡ None → seat_leaving_in p ≡ None → (is_some o || is_some p) ≡ true → (is_open_at o || is_seat_open p) ≡ true
+    by None None a b h = absurd (false≢true h)
+    by None (Some seat) a b h = ap is_none b
+    by (Some connection) p a b h = ap (λ o. is_none o || is_seat_open p) a
 
 -- first the connections are asked for, and then the links are closed
 pub Settles-both : (x y z : Headless) (a b c : Seen) → (IsTrue c.tells → IsTrue b.tells) → AsksWanted x y a b → y.core.servers.wanted ≡ [] → ClosesLeaving y z b c → closes_asked z.core ≡ [] → Settles x z a c

@@ -19,7 +19,7 @@ use Rattle.wc_core.specs.Events.{Arrives}
 use Rattle.wc_core.specs.CoreView.{CoreView}
 use Rattle.wc_core.specs.State.{State, has_end}
 use Rattle.wc_core.specs.Step.{step, run}
-use Rattle.wc_core.specs.Served.{state_of, WereTold, Means, refusal, outs_of, sent_to, Distinct}
+use Rattle.wc_core.specs.Served.{state_of, WereTold, AdmitsArrivalAt, Means, refusal, outs_of, sent_to, Distinct}
 use Rattle.wc_core.specs.ServersKept.{is_wanted, AreNext, AreInOrder}
 use Rattle.wc_core.proofs.DidLemmas.{saves-as}
 use Rattle.wc_core.proofs.ConnectionLemmas.{links-push}
@@ -197,7 +197,7 @@ LoopStep-came x y a b link nonce comes admits going calm call next used limit se
       reaches = ReachesEvents-all x.core.quits y.core.quits x.ran y.ran (Arrives link.0 nonce ∷ []) going (λ fits. comes.ran);
       rises = (let e = ap (λ (c : CoreView). c.starved) admits.core in omega arith);
       verdicts = verdicts-same x.core.verdicts y.core.verdicts (ap (λ (c : CoreView). c.verdicts) admits.core);
-      goes = Goes-one (Arrives link.0 nonce) x.core y.core (inl admits.core);
+      goes = Goes-one (Arrives link.0 nonce) x.core y.core (inl (record { core = admits.core; admits = λ below rows were. (came s (ap (λ (c : CoreView). c.starved) admits.core) below rows were).acts }));
       advances = λ same below rows were agrees. advances t s same below rows were;
       silent = λ over. absurd (false≢true (sym going ∙ over));
       ends = (tt, tt);
@@ -219,10 +219,13 @@ LoopStep-came x y a b link nonce comes admits going calm call next used limit se
     closes : AgreesWithSockets x a → closed_so_far y ≡ closed_so_far x
     closes s = ap (λ xs. xs ++ closes_asked y.core) admits.closed ∙ ap (λ cs. x.links.closed.items ++ cs) ((comes.calm calm).parted ∙ sym calm.parted)
 
+    came : AgreesWithSockets x a → y.core.starved ≡ x.core.starved → x.core.starved < 2 ^ 64 - 1 → (rows : Beside) → WereTold x.core rows → AdmitsArrivalAt link.0 x.core y.core None (step (state_of x.core rows) (Arrives link.0 nonce))
+    came s same below rows were = (admits.step (absent-missing connection_link link.0 x.core.connections (no-client link.0 x.core (nobody s))) rows).comes same below were
+
     advances : IsTrue b.tells → AgreesWithSockets x a → y.core.starved ≡ x.core.starved → x.core.starved < 2 ^ 64 - 1 → (rows : Beside) → WereTold x.core rows → MomentAdvances rows (moment x a) (moment y b) [] (Arrives link.0 nonce ∷ [])
     advances t s same below rows were =
         let absent = absent-missing connection_link link.0 x.core.connections (no-client link.0 x.core (nobody s)) in
-        let came = (admits.step absent rows).comes same below were in
+        let came = came s same below rows were in
         let acts : (run (state_of x.core rows) (Arrives link.0 nonce ∷ [])).acts ≡ [] = ap (λ xs. xs ++ []) came.acts in
         let servers : y.core.servers ≡ used_up link.0 x.core.servers = ap (λ (c : CoreView). c.servers) admits.core in
         MomentAdvances-comes rows (moment x a) (moment y b) [] (Arrives link.0 nonce ∷ []) (comes.used ∙ next' s) came.means (admits.step absent rows).oracle (λ k. ap (owed_to k) acts) (subst (OnOneSide x.core y.core) (sym acts) (sides s))

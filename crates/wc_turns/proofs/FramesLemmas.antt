@@ -6,7 +6,7 @@ use Rattle.std.proofs.lemmas.List.{append-nil}
 use Rattle.wc_text.specs.declared.names.Cause.{Cause}
 use Rattle.wc_text.specs.declared.names.Cause.TheVariants.{Ended, Failed, LoginFailed, NoMemory, Surplus, Quit, Disconnected, NickTaken, BadSocket}
 use Rattle.wc_outside.specs.Keyed.{at_key}
-use Rattle.wc_board.specs.Connections.{leaving_in, leaving_on}
+use Rattle.wc_board.specs.Connections.{connection_link, is_open_at, leaving_in, leaving_on}
 use Rattle.wc_board.specs.Served.{StaysOrStarves}
 use Rattle.wc_core.specs.Events.{Event, Ends, Breaks}
 use Rattle.wc_core.specs.CoreView.{CoreView}
@@ -18,14 +18,15 @@ use Rattle.wc_ws.specs.declared.names.WsRefused.{WsRefused}
 use Rattle.wc_ws.specs.declared.names.WsRefused.TheVariants as refused
 use Rattle.wc_ws.specs.Link.{Link}
 use Rattle.wc_framing.specs.Unframed.{Fed, Comes}
+use Rattle.wc_turns.specs.declared.links.LinkState.{LinkState}
 use Rattle.wc_turns.specs.declared.sockets.WsThen.{WsThen}
 use Rattle.wc_turns.specs.declared.sockets.WsThen.TheVariants.{GoOn, Closed as ClosedFor}
 use Rattle.wc_turns.specs.declared.tail.Tail.{Tail}
 use Rattle.wc_turns.specs.Events.{read_events, end_events}
 use Rattle.wc_turns.specs.Lines.{rest}
-use Rattle.wc_turns.specs.Parties.{has_party}
+use Rattle.wc_turns.specs.Parties.{has_open}
 use Rattle.wc_turns.specs.Served.{MayTake, IsOfLine, LeavesFor, LeavesAtLine, IsOfRead, LeavesForRead, LeavesAtRead}
-use Rattle.wc_turns.specs.Sockets.{cause_of, IsSocketCause, end_for, IsSocketEnd, FedThen, then_of, ServesSocket, ServesPiece}
+use Rattle.wc_turns.specs.Sockets.{cause_of, IsSocketCause, end_for, IsSpared, ClosesSocket, IsSocketEnd, FedThen, then_of, ServesSocket, ServesPiece}
 use Rattle.wc_turns.specs.Steps.{LosesLink}
 use Rattle.wc_turns.specs.Tails.{IsTail}
 use Rattle.wc_turns.specs.Turns.{EndsAs}
@@ -130,6 +131,11 @@ LeavesAtRead-lost socket link why a b is h = record {
       subst (λ k. fresh (leaving_on k b.connections) k) same (own (leaving_on link b.connections) (here (ap (λ k. leaving_on k a.connections) same ∙ none)))
   by other false e apart here none = others other (leaving_on other a.connections) (leaving_on other b.connections) none (apart (λ q. grind (arith, nat_tests)))
 
+-- it leaves, or is spared
+pub LeavesAtRead-closed : (socket : Bool) (link : ℕ) (why : Cause) (a b : CoreView) → IsOfRead socket link link why → LosesLink link why a b ⊎ IsSpared why a b → LeavesAtRead socket link a b
+LeavesAtRead-closed socket link why a b is (inl loses) = LeavesAtRead-lost socket link why a b is loses
+LeavesAtRead-closed socket link why a b is (inr spared) = subst (LeavesAtRead socket link a) (sym spared.same) (LeavesAtRead-line socket link a a (LeavesAtLine-refl link a))
+
 -- ---- the core takes events, and then others
 
 pub MayTake-none : (a : CoreView) (ran : ℕ) → MayTake a a ran ran []
@@ -156,7 +162,7 @@ broken-memory : BadSocket ≡ NoMemory → ⊥
 broken-memory q = cc
 
 -- the event at which a WebSocket link is closed
-pub MayTake-end : (why : Cause) (link : ℕ) (a b : CoreView) (ran ran' : ℕ) → IsSocketCause why → has_party link a ≡ true → a.quits ≡ false → (why ≡ NoMemory → ran' ≡ ran) → (why ≢ NoMemory → ran' ≡ min (ran + 1) (2 ^ 64 - 1))
+pub MayTake-end : (why : Cause) (link : ℕ) (a b : CoreView) (ran ran' : ℕ) → IsSocketCause why → (why ≡ NoMemory → has_open link a ≡ true) → a.quits ≡ false → (why ≡ NoMemory → ran' ≡ ran) → (why ≢ NoMemory → ran' ≡ min (ran + 1) (2 ^ 64 - 1))
     → Does a b (λ state. link_loss_step state link why (at_key client_link link state.clients)) → (why ≡ NoMemory → a.starved < 2 ^ 64 - 1 → a.starved < b.starved) → LosesWhole link why a b → MayTake a b ran ran' (end_events link (end_for why))
 MayTake-end Ended link a b ran ran' is there going none one does counted whole = MayTake-one a b ran ran' (Ends link) going (one ended-memory) does whole
 MayTake-end BadSocket link a b ran ran' is there going none one does counted whole = MayTake-one a b ran ran' (Breaks link) going (one broken-memory) does whole
@@ -165,7 +171,7 @@ MayTake-end NoMemory link a b ran ran' is there going none one does counted whol
     record {
       events = [];
       reaches = rw (none refl) (ReachesEvents-none a.quits b.quits ran);
-      takes = MayRun-starved a b [] keeps (starved-counted a.starved a.starved b.starved (omega arith) keeps.rises (counted refl)) (Goes-starved link a b (record { there = there; loses = whole }));
+      takes = MayRun-starved a b [] keeps (starved-counted a.starved a.starved b.starved (omega arith) keeps.rises (counted refl)) (Goes-starved link a b (record { there = there refl; loses = whole }));
     }
 MayTake-end Failed link a b ran ran' is there going none one does counted whole = absurd is
 MayTake-end LoginFailed link a b ran ran' is there going none one does counted whole = absurd is
@@ -173,6 +179,20 @@ MayTake-end Surplus link a b ran ran' is there going none one does counted whole
 MayTake-end Quit link a b ran ran' is there going none one does counted whole = absurd is
 MayTake-end Disconnected link a b ran ran' is there going none one does counted whole = absurd is
 MayTake-end NickTaken link a b ran ran' is there going none one does counted whole = absurd is
+
+-- a link whose client is open has one that is not leaving
+pub open-has : (link : ℕ) (core : CoreView) → is_open_at (at_key connection_link link core.connections) ≡ true → has_open link core ≡ true
+open-has link core opened = rw opened refl
+
+-- a client that is spared takes none
+pub ClosesSocket-spared : (why : Cause) (state : LinkState) (core : CoreView) (ran : ℕ) → why ≡ NoMemory → ClosesSocket why state (record state { ended = true }) core core ran ran
+ClosesSocket-spared why state core ran starves = record {
+  state = refl;
+  takes = rw starves (MayTake-none core ran);
+  loses = inr (record { starves = starves; same = refl });
+  idle = λ none. none;
+  wanted = refl;
+}
 
 -- where no event was reached after it, none was before
 pub idle-end : (why : Cause) (ran ran' : ℕ) → IsSocketCause why → (why ≡ NoMemory → ran' ≡ ran) → (why ≢ NoMemory → ran' ≡ min (ran + 1) (2 ^ 64 - 1)) → ran' ≡ 0 → ran ≡ 0

@@ -21,17 +21,14 @@ use Rattle.wc_turns.specs.declared.tail.Tail.{Tail}
 use Rattle.wc_turns.specs.Events.{read_events, end_events, text_of_read}
 use Rattle.wc_turns.specs.Heard.{GoesOn}
 use Rattle.wc_turns.specs.Lines.{rest, HasNoLf}
-use Rattle.wc_turns.specs.Parties.{has_party}
 use Rattle.wc_turns.specs.Served.{MayTake, LeavesAtLine, LeavesAtRead}
 use Rattle.wc_turns.specs.Sockets.{end_for, FedThen, ServesPiece, ClosesSocket, FeedsHeld, UnframedAs, ServesFrames, ServesOpened, ReadServed, ServesBytes}
-use Rattle.wc_turns.specs.Steps.{LosesLink}
 use Rattle.wc_turns.specs.Tails.{IsTail}
 use Rattle.wc_turns.specs.Turns.{FramedFor, EndsAs}
-use Rattle.wc_turns.proofs.FramesLemmas.{LeavesAtRead-line, LeavesAtRead-trans, LeavesAtRead-lost, own-read, MayTake-none, MayTake-then}
+use Rattle.wc_turns.proofs.FramesLemmas.{LeavesAtRead-line, LeavesAtRead-trans, LeavesAtRead-closed, own-read, MayTake-none, MayTake-then}
 use Rattle.wc_turns.proofs.HeardAgrees.{framed-is}
 use Rattle.wc_turns.proofs.LineLemmas.{rest-append, rest-line}
 use Rattle.wc_turns.proofs.ServedLemmas.{LeavesAtLine-refl}
-use Rattle.wc_turns.proofs.VacantLemmas.{party-stays}
 
 -- ---- what is held of a client that is not known yet
 
@@ -113,7 +110,7 @@ ServesFrames-plain bytes state core ran plain = record {
   framed = λ all read fed on q. absurd (false≢true (sym plain ∙ fed-socket all read state.framing fed));
   ends = λ all read fed. tt;
   tails = λ on line h. h;
-  takes = λ line h there. MayTake-none core ran;
+  takes = λ line h. MayTake-none core ran;
   causes = LeavesAtRead-line (is_socket state.framing) state.link.0 core core (LeavesAtLine-refl state.link.0 core);
   idle = λ none. (none, refl);
   plain = λ e. (refl, refl);
@@ -134,7 +131,7 @@ ServesFrames-goes bytes old new before after a b ran ran' is state p =
       framed = λ all read f on q. rw later (subst (λ q. FedThen (Some GoOn) q (all ++ bytes) (read ++ s.text) after) on (p.fed all read (rw is at f)));
       ends = λ all read f. tt;
       tails = s.tails;
-      takes = λ line h there. rw (append-nil (read_events old.link.0 line s.text)) (s.takes line h);
+      takes = λ line h. rw (append-nil (read_events old.link.0 line s.text)) (s.takes line h);
       causes = LeavesAtRead-line (is_socket old.framing) old.link.0 a b s.causes;
       idle = λ none. (let first = s.idle none in (first.0, ap (λ (c : CoreView). c.servers.wanted) first.1));
       plain = λ e. absurd (false≢true (sym e ∙ ap is_socket later));
@@ -151,7 +148,7 @@ ServesFrames-closes bytes old mid new before after a b c r s t why going is stat
     let over : new.ended ≡ true = ap (λ (l : LinkState). l.ended) closes.state in
     let running : b.quits ≡ false = goes-on b.quits refl in
     let socket : is_socket old.framing ≡ true = ap is_socket is in
-    let loses = subst (λ (l : LinkId). LosesLink l.0 why b c) link closes.loses in
+    let own = LeavesAtRead-closed true mid.link.0 why b c (own-read mid.link.0 why serves.ends) closes.loses in
     record {
       text = serves.text;
       end = end_for why;
@@ -161,9 +158,9 @@ ServesFrames-closes bytes old mid new before after a b c r s t why going is stat
       framed = λ all read f on q. absurd (false≢true (sym q ∙ over));
       ends = λ all read f. p.fed all read (rw is at f);
       tails = λ on line h. rw tail (serves.tails running line h);
-      takes = λ line h there. MayTake-then a b c r s t (read_events old.link.0 line serves.text) (end_events old.link.0 (end_for why)) going running (serves.takes line h)
-          (subst (λ (l : LinkId). has_party l.0 b ≡ true → MayTake b c s t (end_events l.0 (end_for why))) link closes.takes (party-stays a b old.link.0 serves.causes.links serves.causes.servers there));
-      causes = rw socket (LeavesAtRead-trans true old.link.0 a b c (LeavesAtRead-line true old.link.0 a b serves.causes) (LeavesAtRead-lost true old.link.0 why b c (own-read old.link.0 why serves.ends) loses));
+      takes = λ line h. MayTake-then a b c r s t (read_events old.link.0 line serves.text) (end_events old.link.0 (end_for why)) going running (serves.takes line h)
+          (subst (λ (l : LinkId). MayTake b c s t (end_events l.0 (end_for why))) link closes.takes);
+      causes = rw socket (LeavesAtRead-trans true old.link.0 a b c (LeavesAtRead-line true old.link.0 a b serves.causes) (subst (λ (l : LinkId). LeavesAtRead true l.0 b c) link own));
       idle = λ none. (let first = serves.idle (closes.idle none) in (first.0, closes.wanted ∙ ap (λ (v : CoreView). v.servers.wanted) first.1));
       plain = λ e. absurd (false≢true (sym e ∙ ap is_socket later));
     }
@@ -186,7 +183,7 @@ ServesOpened-fed bytes old mid new a b ran ran' state begun socket feeds s =
       framed = λ fed on q. s.framed old.tail.line [] (feeds fed) on q;
       ends = λ fed. s.ends old.tail.line [] (feeds fed);
       tails = λ on. s.tails on [] start;
-      takes = subst (λ (l : LinkId). has_party l.0 a ≡ true → MayTake a b ran ran' (read_events l.0 [] s.text ++ end_events l.0 s.end)) link (s.takes [] start);
+      takes = subst (λ (l : LinkId). MayTake a b ran ran' (read_events l.0 [] s.text ++ end_events l.0 s.end)) link (s.takes [] start);
       causes = subst (λ (l : LinkId). LeavesAtRead (is_socket old.framing) l.0 a b) link (subst (λ t. LeavesAtRead t mid.link.0 a b) socket s.causes);
       idle = s.idle;
       plain = s.plain;
@@ -210,8 +207,8 @@ ServesOpened-starved bytes old mid new a b ran ran' state begun socket s =
       framed = λ fed on q. absurd (false≢true (sym q ∙ over));
       ends = λ fed. tt;
       tails = λ on. rw tail start;
-      takes = subst (λ (l : LinkId). has_party l.0 a ≡ true → MayTake a b ran ran' []) link s.takes;
-      causes = LeavesAtRead-lost (is_socket old.framing) old.link.0 NoMemory a b tt (subst (λ (l : LinkId). LosesLink l.0 NoMemory a b) link s.loses);
+      takes = s.takes;
+      causes = subst (λ (l : LinkId). LeavesAtRead (is_socket old.framing) l.0 a b) link (LeavesAtRead-closed (is_socket old.framing) mid.link.0 NoMemory a b tt s.loses);
       idle = λ none. (s.idle none, s.wanted);
       plain = λ e. (refl, refl);
     }
@@ -247,7 +244,7 @@ ServesBytes-ended bytes state core ran over = record {
         framed = λ on. rw (e, over) (begun, both.1);
         ends = tt;
         tails = λ on. rw (append-nil read) (rw both.1 at tail);
-        takes = λ there. MayTake-none core ran;
+        takes = MayTake-none core ran;
       })
 
 -- the bytes are text of the link as they come
@@ -282,7 +279,7 @@ ServesBytes-text bytes old new a b ran ran' unended state opens plain tails take
         framed = λ on. rw (server, ended, none) framed;
         ends = tt;
         tails = λ on. rw (rest-append [] all bytes) (tails on (rest [] all) line);
-        takes = λ there. rw (link, append-nil (read_events old.link.0 (rest [] all) bytes)) (takes (rest [] all) line);
+        takes = rw (link, append-nil (read_events old.link.0 (rest [] all) bytes)) (takes (rest [] all) line);
       })
 
   -- a WebSocket would have begun as one
@@ -305,7 +302,7 @@ ServesBytes-text bytes old new a b ran ran' unended state opens plain tails take
         framed = λ on. rw (server, e, ended) (refl, is);
         ends = tt;
         tails = λ on. rw (rest-append [] all bytes) (tails on (rest [] all) line);
-        takes = λ there. rw (link, append-nil (read_events old.link.0 (rest [] all) bytes)) (takes (rest [] all) line);
+        takes = rw (link, append-nil (read_events old.link.0 (rest [] all) bytes)) (takes (rest [] all) line);
       })
 
   by : (server : Option (List ℕ)) → old.server ≡ server → (all read : List ℕ) → FramedFor old.server false all read old.framing → IsTail (rest [] (text_of_read (is_socket old.framing) all read)) old.tail → ReadServed (is_none old.server && begins (all ++ bytes)) all read bytes [] GoesOn new a b ran ran'

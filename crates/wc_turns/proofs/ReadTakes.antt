@@ -1,5 +1,5 @@
 -- A read of a link is taken.
-use Rattle.std.proofs.Common.{◌≡◌, ◌≢◌, ℕ, ◌<◌, Bool, true, false, cond, eqb, ◌&&◌, List, [], ◌∷◌, ◌++◌, Option, Some, None, IfSome, is_none, is_some, refl, sym, ap, ◌∙◌, subst, arith, get_or, set}
+use Rattle.std.proofs.Common.{◌≡◌, ◌≢◌, ℕ, ◌<◌, Bool, true, false, cond, eqb, ◌&&◌, List, [], ◌∷◌, ◌++◌, Option, Some, None, IfSome, is_none, refl, sym, ap, ◌∙◌, subst, arith, get_or, set}
 use Rattle.std.specs.List.{flat_map}
 use Rattle.std.proofs.lemmas.Bool.Decides.{nat_tests}
 use Rattle.std.proofs.lemmas.List.{append-nil}
@@ -20,8 +20,7 @@ use Rattle.wc_core.specs.CoreView.{CoreView}
 use Rattle.wc_turns.specs.Served.{MayTake, LeavesAtRead}
 use Rattle.wc_turns.specs.Sockets.{ReadServed, ServesBytes}
 use Rattle.wc_turns.specs.Tails.{IsTail}
-use Rattle.wc_turns.specs.Parties.{has_party}
-use Rattle.wc_turns.specs.Turns.{AgreesWithHeard, HaveParties, IsFramed, frames_text, EndsAs, EndsFor, TakesRead}
+use Rattle.wc_turns.specs.Turns.{AgreesWithHeard, IsFramed, frames_text, EndsAs, EndsFor, TakesRead}
 use Rattle.wc_turns.proofs.AgreesLemmas.{For-read, text-push, bytes_on-read}
 use Rattle.wc_turns.proofs.HeardAgrees.{heard-more, bytes-quiet, come-quiet, socket-heard, framed-at}
 use Rattle.wc_turns.proofs.HeardLemmas.{IsQuiet, happenings-push, socket-stays, tail_as-is, tail-quiet, frames-push, frames-quiet, other-test, quiet-read}
@@ -121,8 +120,8 @@ TakesRead-serves x y link place old new bytes p at stands turns used listening r
     servers = b.causes.servers;
     idle = λ none. (b.idle none).1;
     told = λ taken unknown on s. rw (opened, clock, used, refused, unlisted, is-read) (For-read x.clock states x.used x.ran y.ran x.refused.items x.unlisted taken link place old new bytes p at key (unknown link.0) stands (ap (λ (l : LinkState). l.connecting) b.state, ap (λ (l : LinkState). l.server) b.state) (λ none. (b.idle none).0) s);
-    hears = λ taken history spells unknown on there s. rw (opened, p.put new, used) (hears taken history spells unknown on there s);
-    takes = λ taken history spells there s. takes taken history spells there s;
+    hears = λ taken history spells unknown on s. rw (opened, p.put new, used) (hears taken history spells unknown on s);
+    takes = λ taken history spells s. takes taken history spells s;
     ends = λ taken history spells s. ends-read socket link bytes b.text b.end history (ap (λ hs. socket_on link.0 (hs ++ Read link bytes ∷ [])) spells ∙ index taken history s ∙ sym (served taken history spells s).is) (subst (λ hs. EndsAs b.end (flat_map (bytes_on link.0) hs ++ bytes) (frames_text link.0 history ++ b.text)) (sym spells) (served taken history spells s).ends);
     sockets = λ taken history spells s k e. sockets taken history spells s k (eqb k link.0) refl (rw (opened, p.put new) at e);
   };
@@ -159,20 +158,20 @@ TakesRead-serves x y link place old new bytes p at stands turns used listening r
   index : (taken : List Happening) (history : List Heard) → AgreesWithHeard states x.used x.ran taken history → socket_on link.0 (taken ++ Read link bytes ∷ []) ≡ (is_none old.server && begins (flat_map (bytes_on link.0) taken ++ bytes))
   index taken history s = socket-read link bytes taken old.server (rw found at (s.came link.0))
 
-  takes : (taken : List Happening) (history : List Heard) → happenings history ≡ taken → HaveParties states x.core → AgreesWithHeard states x.used x.ran taken history → MayTake x.core y.core x.ran y.ran (events_of history h)
-  takes taken history spells there s =
+  takes : (taken : List Happening) (history : List Heard) → happenings history ≡ taken → AgreesWithHeard states x.used x.ran taken history → MayTake x.core y.core x.ran y.ran (events_of history h)
+  takes taken history spells s =
       let t = is_none old.server && begins (flat_map (bytes_on link.0) taken ++ bytes) in
       let same : read_events new.link.0 (rest [] (text_of_read t (flat_map (bytes_on link.0) taken) (frames_text link.0 history))) (text_of_read t bytes b.text) ++ end_events new.link.0 b.end ≡ events_of history h =
       ap (λ n. read_events n (rest [] (text_of_read t (flat_map (bytes_on link.0) taken) (frames_text link.0 history))) (text_of_read t bytes b.text) ++ end_events n b.end) number
       ∙ ap (λ es. es ++ end_events link.0 b.end) (sym (came-as link bytes b.text taken history t spells (index taken history s)))
       ∙ sym (events-read socket link bytes b.text b.end history b.plain) in
-      subst (MayTake x.core y.core x.ran y.ran) same ((served taken history spells s).takes (ap (λ n. has_party n x.core) number ∙ there link.0 (ap is_some found)))
+      subst (MayTake x.core y.core x.ran y.ran) same (served taken history spells s).takes
 
-  hears : (taken : List Happening) (history : List Heard) → happenings history ≡ taken → ((k : ℕ) → x.used < k → at_key link_number k states ≡ None) → y.core.quits ≡ false → HaveParties states x.core → AgreesWithHeard states x.used x.ran taken history
+  hears : (taken : List Happening) (history : List Heard) → happenings history ≡ taken → ((k : ℕ) → x.used < k → at_key link_number k states ≡ None) → y.core.quits ≡ false → AgreesWithHeard states x.used x.ran taken history
       → AgreesWithHeard (put_at link_number link.0 new states) x.used y.ran (taken ++ happened h) (history ++ h ∷ [])
-  hears taken history spells unknown on there s =
+  hears taken history spells unknown on s =
       let r = served taken history spells s in
-      let m = takes taken history spells there s in
+      let m = takes taken history spells s in
       let quiet : (k : ℕ) → k ≢ link.0 → IsQuiet k h = λ k n. quiet-heard socket link bytes b.text b.end k n in
       let above : (k : ℕ) → x.used < k → k ≢ link.0 = λ k l q. (let none : at_key link_number link.0 states ≡ None = unknown link.0 (subst (λ n. x.used < n) q l) in let z : None ≡ Some old = sym none ∙ found in cc) in
       let all : flat_map (bytes_on link.0) (taken ++ happened h) ≡ flat_map (bytes_on link.0) taken ++ bytes = ap (λ hs. flat_map (bytes_on link.0) (taken ++ hs)) is-read ∙ text-push link.0 taken (Read link bytes) ∙ ap (λ bs. flat_map (bytes_on link.0) taken ++ bs) (bytes_on-read link bytes) in

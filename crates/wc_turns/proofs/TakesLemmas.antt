@@ -20,7 +20,7 @@ use Rattle.wc_core.specs.CoreView.{CoreView}
 use Rattle.wc_core.specs.State.{State, Act, has_end}
 use Rattle.wc_core.specs.Step.{run, step}
 use Rattle.wc_core.specs.Served.{links_of, state_of, outs_of, close_of, or_else, Distinct, Does, Follows, KeepsSaved, plain_beside}
-use Rattle.wc_core.specs.ServersKept.{is_wanted, AreInOrder, parts_in}
+use Rattle.wc_core.specs.ServersKept.{AreInOrder, parts_in}
 use Rattle.wc_core.proofs.ConnectionLemmas.{client-missing}
 use Rattle.wc_board.specs.Served.{StaysOrStarves}
 use Rattle.wc_turns.specs.declared.links.LinkState.{LinkState}
@@ -32,7 +32,7 @@ use Rattle.wc_turns.specs.Parties.{asks_of, asks_in, closes_asked, seat_closes, 
 use Rattle.wc_turns.specs.Run.{closings, close_of_parting}
 use Rattle.wc_turns.specs.Steps.{LosesLink}
 use Rattle.wc_turns.specs.Served.{closed_by, leaving_closes, IsOfRead, LeavesForRead, LeavesAtRead}
-use Rattle.wc_turns.specs.Turns.{HaveParties, AgreesOnLinks, AgreesWithSockets, moment, CausedBy, IsOfServer, HasCause, wake_count, listen_faults, closed_so_far, LoopStep, TakesHappening}
+use Rattle.wc_turns.specs.Turns.{AgreesOnLinks, AgreesWithSockets, moment, CausedBy, IsOfServer, HasCause, wake_count, listen_faults, closed_so_far, LoopStep, TakesHappening}
 use Rattle.wc_turns.proofs.KeyedLemmas.{at_key-key, at_key-put_same, at_key-put_other, none_of, same-keys}
 use Rattle.wc_turns.proofs.RunLemmas.{ReachesEvents-all}
 use Rattle.wc_turns.proofs.PointLemmas.{AreAlone, seats-above, sides-kept, MomentAdvances-takes, asks_of-append}
@@ -93,10 +93,10 @@ TakesHappening-lost x y h event going quiet nobody timeless keeps unstanding eve
   servers = (does (plain_beside x.core)).keeps.servers;
   idle = λ none. absurd (omega arith);
   told = λ taken unknown on s. rw (links, clock, used, refused, unlisted) (For-quiet x.clock x.links.opened.items x.used x.ran y.ran x.refused.items x.unlisted taken h 1 quiet timeless keeps unstanding (omega arith) (omega arith) s);
-  hears = λ taken history spells unknown on there s. rw (links, used) (Hears-quiet x.links.opened.items x.used x.used x.ran y.ran taken history (Happened h) spells (quiet-happened h quiet nobody) (omega arith) (let e = ap length (events history) in omega arith) s);
+  hears = λ taken history spells unknown on s. rw (links, used) (Hears-quiet x.links.opened.items x.used x.used x.ran y.ran taken history (Happened h) spells (quiet-happened h quiet nobody) (omega arith) (let e = ap length (events history) in omega arith) s);
   sockets = λ taken history spells s k e. socket-stays k taken (h ∷ []) (socket-heard x.links.opened.items x.used x.ran taken history s k (rw links at e));
   ends = λ taken history spells s. tt;
-  takes = λ taken history spells there s. rw (events history) (record { events = event ∷ []; reaches = ReachesEvents-all x.core.quits y.core.quits x.ran y.ran (event ∷ []) going (λ fits. omega arith); takes = MayRun-one x.core y.core event does whole });
+  takes = λ taken history spells s. rw (events history) (record { events = event ∷ []; reaches = ReachesEvents-all x.core.quits y.core.quits x.ran y.ran (event ∷ []) going (λ fits. omega arith); takes = MayRun-one x.core y.core event does whole });
 }
 
 -- a message could not be put into a frame of a link
@@ -117,10 +117,10 @@ TakesHappening-broken x y link going turns used listening refused unlisted clock
   servers = (does (plain_beside x.core)).keeps.servers;
   idle = λ none. absurd (omega arith);
   told = λ taken unknown on s. rw (append-nil taken, links, clock, used, refused, unlisted) (For-reached x.clock x.links.opened.items x.used x.ran y.ran x.refused.items x.unlisted taken (λ z. omega arith) s);
-  hears = λ taken history spells unknown on there s. rw (links, used) (Hears-quiet x.links.opened.items x.used x.used x.ran y.ran taken history (NotPut link) spells (quiet-notput link) (omega arith) ran s);
+  hears = λ taken history spells unknown on s. rw (links, used) (Hears-quiet x.links.opened.items x.used x.used x.ran y.ran taken history (NotPut link) spells (quiet-notput link) (omega arith) ran s);
   sockets = λ taken history spells s k e. socket-stays k taken [] (socket-heard x.links.opened.items x.used x.ran taken history s k (rw links at e));
   ends = λ taken history spells s. ap (socket_on link.0) spells ∙ socket-heard x.links.opened.items x.used x.ran taken history s link.0 is;
-  takes = λ taken history spells there s. record { events = Breaks link.0 ∷ []; reaches = ReachesEvents-all x.core.quits y.core.quits x.ran y.ran (Breaks link.0 ∷ []) going (λ fits. omega arith); takes = MayRun-one x.core y.core (Breaks link.0) does whole };
+  takes = λ taken history spells s. record { events = Breaks link.0 ∷ []; reaches = ReachesEvents-all x.core.quits y.core.quits x.ran y.ran (Breaks link.0 ∷ []) going (λ fits. omega arith); takes = MayRun-one x.core y.core (Breaks link.0) does whole };
 }
 
 -- a connection stands
@@ -140,11 +140,11 @@ TakesHappening-stands x y link going connecting turns used listening refused unl
   servers = (does (plain_beside x.core)).keeps.servers;
   idle = λ none. absurd (omega arith);
   told = λ taken unknown on s. rw (opened, clock, used, refused, unlisted) (For-stands x.clock states x.used x.ran y.ran x.refused.items x.unlisted taken link (within unknown (nat_le link.0 x.used) refl) ran s);
-  hears = λ taken history spells unknown on there s. rw (opened, used) (Hears-states states (changed_at link.0 standing_state states (at_key link_number link.0 states)) x.used y.ran (taken ++ Connected link ∷ []) (history ++ Happened (Connected link) ∷ []) (SameTails-changed link.0 standing_state keeps-standing states) readings
+  hears = λ taken history spells unknown on s. rw (opened, used) (Hears-states states (changed_at link.0 standing_state states (at_key link_number link.0 states)) x.used y.ran (taken ++ Connected link ∷ []) (history ++ Happened (Connected link) ∷ []) (SameTails-changed link.0 standing_state keeps-standing states) readings
       (Hears-quiet states x.used x.used x.ran y.ran taken history (Happened (Connected link)) spells (quiet-happened (Connected link) (λ k. refl) (λ k. refl)) (omega arith) ran s));
   sockets = λ taken history spells s k e. socket-stays k taken (Connected link ∷ []) (socket-heard states x.used x.ran taken history s k (sym (flag-stands is_socket_at (λ state. refl) k) ∙ rw opened at e));
   ends = λ taken history spells s. tt;
-  takes = λ taken history spells there s. record { events = Stands link.0 ∷ []; reaches = ReachesEvents-all x.core.quits y.core.quits x.ran y.ran (Stands link.0 ∷ []) going (λ fits. omega arith); takes = MayRun-one x.core y.core (Stands link.0) does whole };
+  takes = λ taken history spells s. record { events = Stands link.0 ∷ []; reaches = ReachesEvents-all x.core.quits y.core.quits x.ran y.ran (Stands link.0 ∷ []) going (λ fits. omega arith); takes = MayRun-one x.core y.core (Stands link.0) does whole };
 } where
   states : List LinkState
   states = x.links.opened.items
@@ -247,11 +247,11 @@ LoopStep-takes x y link a b h n wake faults call sent choked asked same calm goi
     (λ over. absurd (false≢true (sym going ∙ over))) (λ t s. saves)
     (λ s. rw (takes.used, takes.listening, takes.refused) (among s))
     (λ t s on. takes.told a.taken s.among.unknown on (s.told (call.told t) going))
-    (λ t s on. takes.hears a.taken s.history (s.spells (call.told t)) s.among.unknown on (parties s.among) (s.hears (call.told t) going))
+    (λ t s on. takes.hears a.taken s.history (s.spells (call.told t)) s.among.unknown on (s.hears (call.told t) going))
     (λ t s. takes.sockets a.taken s.history (s.spells (call.told t)) (s.hears (call.told t) going))
     (λ s none. takes.idle none ∙ calm.asked)
     (λ t s.
-    let m = takes.takes a.taken s.history (s.spells (call.told t)) (parties s.among) (s.hears (call.told t) going) in
+    let m = takes.takes a.taken s.history (s.spells (call.told t)) (s.hears (call.told t) going) in
     let later = among s.among in
     let one : All (IsOf link.0) m.events = all-front (IsOf link.0) m.events m.reaches.rest (subst (All (IsOf link.0)) m.reaches.front (of s.history)) in
     record {
@@ -281,10 +281,6 @@ LoopStep-takes x y link a b h n wake faults call sent choked asked same calm goi
           };
     })
   where
-    -- a link that is kept has somebody at it
-    parties : AgreesOnLinks x.links.opened.items x.core x.used x.listening x.refused.items a → HaveParties x.links.opened.items x.core
-    parties l k there = l.parties k ∙ ap (λ t. t || is_wanted k x.core.servers.wanted) there
-
     among : AgreesOnLinks x.links.opened.items x.core x.used x.listening x.refused.items a → AgreesOnLinks y.links.opened.items y.core x.used x.listening x.refused.items b
     among s = among-come x.links.opened.items y.links.opened.items x.core y.core x.used x.listening x.refused.items a b takes.numbers takes.undrained takes.blocked takes.there takes.clients takes.servers same s
 

@@ -31,7 +31,7 @@ use Rattle.wc_turns.proofs.PartyLemmas.{among-come}
 use Rattle.wc_turns.proofs.PointLemmas.{sides-kept}
 use Rattle.wc_turns.proofs.RunLemmas.{ReachesEvents-none}
 use Rattle.wc_turns.proofs.SeatLemmas.{loses-keeps}
-use Rattle.wc_turns.proofs.AskedLemmas.{unsent-party}
+use Rattle.wc_turns.proofs.AskedLemmas.{calm-open, unsent-party}
 use Rattle.wc_turns.proofs.ContainedLemmas.{KeepsLinks-trans, KeepsLinks-same, KeepsLinks-takes}
 use Rattle.wc_turns.proofs.PartLemmas.{KeepsLinks-sends, sends-has, sends-count}
 use Rattle.wc_turns.proofs.ReadLemmas.{lost-leaves, lost-has, lost-count}
@@ -88,7 +88,7 @@ starved-step x core link a there loses starved calm going =
       reaches = ReachesEvents-none x.core.quits core.quits x.ran;
       rises = loses.keeps.rises;
       verdicts = loses.keeps.verdicts;
-      goes = Goes-starved link.0 x.core core (record { there = there; loses = loses.whole });
+      goes = Goes-starved link.0 x.core core (record { there = calm-open link.0 x.core calm there; loses = loses.whole });
       advances = λ same below rows were agrees. no-starving x.core.starved core.starved starved same below;
       silent = λ over. refl;
       ends = tt;

@@ -8,8 +8,8 @@ use Rattle.wc_servers.specs.declared.wanted.Wanted.{Wanted}
 use Rattle.wc_servers.specs.Seats.{SeatView, seat_link, server_link, seat_of, is_open, open_of}
 use Rattle.wc_core.specs.CoreView.{CoreView}
 use Rattle.wc_core.specs.Events.{Event, Fails}
-use Rattle.wc_core.specs.Served.{links_of, state_of, Follows, KeepsClients}
-use Rattle.wc_core.specs.ServersKept.{is_wanted, AreNext, ServersKeep}
+use Rattle.wc_core.specs.Served.{state_of, Follows, KeepsClients}
+use Rattle.wc_core.specs.ServersKept.{is_wanted, AreNext}
 use Rattle.wc_core.specs.State.{State, Beside, Stepped, has_end}
 use Rattle.wc_core.specs.Step.{step, run, no_step}
 use Rattle.wc_core.proofs.ConnectionLemmas.{client-missing}
@@ -42,15 +42,6 @@ vacant-keeps x y keeps k h =
       omega arith,
       rw (same-keys connection_link k y.connections x.connections keeps.links, come.links k, none) (ap (λ t. is_some (at_key connection_link k x.connections) || t) (or-false (is_some (at_key seat_link k x.servers.seats))) ∙ h.1),
     )
-
-or-first : (a b c : Bool) → (a || b) ≡ true → (a || (b || c)) ≡ true
-or-first true b c e = refl
-or-first false true c e = refl
-or-first false false c e = absurd (false≢true e)
-
--- who is at a link stays there
-pub party-stays : (x y : CoreView) (k : ℕ) → links_of y ≡ links_of x → ServersKeep x.servers y.servers → has_party k x ≡ true → has_party k y ≡ true
-party-stays x y k links come there = rw (same-keys connection_link k y.connections x.connections links, come.links k) (or-first (is_some (at_key connection_link k x.connections)) (is_some (at_key seat_link k x.servers.seats)) (is_wanted k come.more) there)
 
 -- ---- the loss of such a link changes nothing
 

@@ -1,5 +1,5 @@
 -- What the core goes through as events come, whatever memory is refused.
-use Rattle.std.specs.Prelude.{◌≡◌, ◌⊎◌, ◌++◌, ℕ, Bool, true, false, List, [], ◌∷◌, Option, Some, None}
+use Rattle.std.specs.Prelude.{◌≡◌, ◌⊎◌, ◌++◌, ◌-◌, ◌^◌, ◌<◌, ℕ, Bool, true, false, List, [], ◌∷◌, Option, Some, None}
 use Rattle.wc_text.specs.declared.names.Cause.{Cause}
 use Rattle.wc_text.specs.declared.names.Cause.TheVariants.{Ended, Failed, BadSocket, NoMemory}
 use Rattle.wc_text.specs.declared.names.Cause.TheVariants.{Surplus}
@@ -11,11 +11,11 @@ use Rattle.wc_core.specs.Contained.{Contains, Counts, lost_number, starved_by}
 use Rattle.wc_core.specs.CoreView.{CoreView}
 use Rattle.wc_core.specs.Events.{Event, Start, Tick, Arrives, Line, Stands, Ends, Fails, Breaks}
 use Rattle.wc_core.specs.Events.{ListenFails}
-use Rattle.wc_core.specs.Served.{state_of, Does}
+use Rattle.wc_core.specs.Served.{state_of, WereTold, Does}
 use Rattle.wc_core.specs.Starts.{Starts}
 use Rattle.wc_core.specs.State.{State, Beside, Closes, Stepped}
 use Rattle.wc_core.specs.Step.{step, link_loss_step, client_link}
-use Rattle.wc_turns.specs.Parties.{has_party}
+use Rattle.wc_turns.specs.Parties.{has_party, has_open}
 
 -- ---- one event
 
@@ -52,13 +52,18 @@ pub record RefusesWhole (link : ℕ) (nonce : List ℕ) (old new : CoreView) : T
   pub closes : (told : Beside) → ((step (state_of old told) (Arrives link nonce)).acts
       ≡ Closes link cause ∷ []) ⊎ (cause ≡ NoMemory)
 
--- a client comes, or is refused
+-- A client comes. It is not one too many: the event refuses none.
+pub record ComesWhole (link : ℕ) (nonce : List ℕ) (old new : CoreView) : Type 0 where
+  pub core : new ≡ record old {
+    connections = old.connections
+        ++ new_connection old.options (record { 0 = link }) nonce ∷ [];
+    servers = used_up link old.servers;
+  }
+  pub admits : old.starved < 2 ^ 64 - 1 → (told : Beside) → WereTold old told →
+      (step (state_of old told) (Arrives link nonce)).acts ≡ []
+
 abbrev pub ComesOrNot : ℕ → List ℕ → CoreView → CoreView → Type 0
-ComesOrNot link nonce old new = (new ≡ record old {
-  connections = old.connections
-      ++ new_connection old.options (record { 0 = link }) nonce ∷ [];
-  servers = used_up link old.servers;
-}) ⊎ RefusesWhole link nonce old new
+ComesOrNot link nonce old new = ComesWhole link nonce old new ⊎ RefusesWhole link nonce old new
 
 abbrev pub TakesEvent : Event → CoreView → CoreView → Type 0
 TakesEvent (Start moment) old new = Does old new (λ state. step state (Start moment))
@@ -75,9 +80,10 @@ TakesEvent ListenFails old new = new ≡ old
 
 -- ---- what the loop does besides
 
--- there was no memory for what goes over a link: the client or the server that is at it is lost
+-- there was no memory for what goes over a link: the client or the server that is at it, and is not
+-- leaving already, is lost
 pub record StarvesWhole (link : ℕ) (old new : CoreView) : Type 0 where
-  pub there : has_party link old ≡ true
+  pub there : has_open link old ≡ true
   pub loses : LosesWhole link NoMemory old new
 
 -- there was no memory for a connection: its server is lost and forgotten
@@ -100,7 +106,8 @@ pub record KeepsState (old new : CoreView) : Type 0 where
   pub starved : new.starved ≡ old.starved
   pub quits : new.quits ≡ old.quits
 
--- A link is lost without an event for want of memory alone, and only where somebody is at it.
+-- A link is lost without an event for want of memory alone, and only where somebody is at it: who is
+-- leaving already is not lost, nor counted, once more.
 pub data Besides (old new : CoreView) : Type 0 where
   Starves : (link : ℕ) → StarvesWhole link old new → Besides old new
   Drops : (link : ℕ) → DropsWhole link old new → Besides old new

@@ -6,10 +6,10 @@ use Rattle.wc_text.specs.declared.names.LinkId.{LinkId}
 use Rattle.wc_outside.specs.Keyed.{at_key}
 use Rattle.wc_outside.specs.declared.happening.Asked.{Asked}
 use Rattle.wc_outside.specs.declared.happening.Asked.TheVariants.{Connect}
-use Rattle.wc_board.specs.Connections.{connection_link, unsent_on as client_unsent_on}
+use Rattle.wc_board.specs.Connections.{connection_link, is_open_at, unsent_on as client_unsent_on}
 use Rattle.wc_servers.specs.declared.wanted.Wanted.{Wanted}
 use Rattle.wc_servers.specs.Outs.{lines_by, wanted_in}
-use Rattle.wc_servers.specs.Seats.{SeatView, seat_link}
+use Rattle.wc_servers.specs.Seats.{SeatView, seat_link, is_open_at as is_seat_open}
 use Rattle.wc_servers.specs.Seats.{unsent_on as server_unsent_on}
 use Rattle.wc_core.specs.CoreView.{CoreView}
 use Rattle.wc_core.specs.State.{Act, Sends, Closes, Serves, Quits}
@@ -23,6 +23,11 @@ use Rattle.wc_turns.specs.Run.{close_of_parting, leaving_closes}
 abbrev pub has_party : ℕ → CoreView → Bool
 has_party link core = is_some (at_key connection_link link core.connections)
     || is_some (at_key seat_link link core.servers.seats)
+
+-- whether it has one that is not leaving
+abbrev pub has_open : ℕ → CoreView → Bool
+has_open link core = is_open_at (at_key connection_link link core.connections)
+    || is_seat_open (at_key seat_link link core.servers.seats)
 
 -- the number of a link is used, and nobody is at it
 abbrev pub IsVacant : CoreView → ℕ → Type 0

@@ -1,5 +1,5 @@
 -- What the frames of WebSocket links come to, and what is put into frames.
-use Rattle.std.specs.Prelude.{◌≡◌, ℕ, ◌&&◌, Bool, true, false, List, [], ◌++◌}
+use Rattle.std.specs.Prelude.{◌≡◌, ◌⊎◌, ℕ, ◌&&◌, Bool, true, false, List, [], ◌++◌}
 use Rattle.std.specs.Prelude.{Option, Some, None, IfSome, is_none}
 use Rattle.wc_text.specs.declared.names.Cause.{Cause}
 use Rattle.wc_text.specs.declared.names.Cause.TheVariants.{Ended, Failed, LoginFailed, NoMemory}
@@ -31,7 +31,6 @@ use Rattle.wc_turns.specs.Events.{read_events, end_events, text_of_read}
 use Rattle.wc_turns.specs.Heard.{SocketEnd, GoesOn, Closes, Broken, NotPut}
 use Rattle.wc_turns.specs.Lines.{rest}
 use Rattle.wc_turns.specs.Links.{link_number, changed_at, frames_of, gone_frames}
-use Rattle.wc_turns.specs.Parties.{has_party}
 use Rattle.wc_turns.specs.Served.{MayTake, LeavesAtLine, LeavesAtRead}
 use Rattle.wc_turns.specs.Steps.{LosesLink}
 use Rattle.wc_turns.specs.Tails.{IsTail}
@@ -114,14 +113,18 @@ pub record ServesPiece (link : ℕ) (piece : List ℕ) (then : WsThen) (old new 
   pub fed : (bytes read : List ℕ) → Fed bytes read old →
       FedThen (Some then) now.quits (bytes ++ piece) (read ++ serves.text) new
 
--- the client of a WebSocket link begins to leave, if it was not leaving, and nothing more is read of
--- the link; that is an event, but for want of memory, which counts where it is there
+-- a client is spared a loss for this cause: it is one for want of memory, which changes nothing
+pub record IsSpared (cause : Cause) (before now : CoreView) : Type 0 where
+  pub starves : cause ≡ NoMemory
+  pub same : now ≡ before
+
+-- The client of a WebSocket link begins to leave, if it was not leaving, and nothing more is read of
+-- the link. That is an event, but for want of memory, which counts only where it was not leaving.
 pub record ClosesSocket (cause : Cause) (old new : LinkState) (before now : CoreView)
     (ran ran' : ℕ) : Type 0 where
   pub state : new ≡ record old { ended = true }
-  pub takes : has_party old.link.0 before ≡ true →
-      MayTake before now ran ran' (end_events old.link.0 (end_for cause))
-  pub loses : LosesLink old.link.0 cause before now
+  pub takes : MayTake before now ran ran' (end_events old.link.0 (end_for cause))
+  pub loses : LosesLink old.link.0 cause before now ⊎ IsSpared cause before now
   pub idle : ran' ≡ 0 → ran ≡ 0
   pub wanted : now.servers.wanted ≡ before.servers.wanted
 
@@ -149,7 +152,7 @@ pub record ServesFrames (bytes : List ℕ) (old new : LinkState) (before now : C
       EndsAs end (all ++ bytes) (read ++ text)
   pub tails : now.quits ≡ false → (line : List ℕ) → IsTail line old.tail →
       IsTail (rest line text) new.tail
-  pub takes : (line : List ℕ) → IsTail line old.tail → has_party old.link.0 before ≡ true →
+  pub takes : (line : List ℕ) → IsTail line old.tail →
       MayTake before now ran ran' (read_events old.link.0 line text ++ end_events old.link.0 end)
   pub causes : LeavesAtRead (is_socket old.framing) old.link.0 before now
   pub idle : ran' ≡ 0 → (ran ≡ 0) × (now.servers.wanted ≡ before.servers.wanted)
@@ -168,7 +171,7 @@ pub record ServesOpened (bytes : List ℕ) (old new : LinkState) (before now : C
       UnframedAs (old.tail.line ++ bytes) text new.framing
   pub ends : FedAs [] [] old.framing → EndsAs end (old.tail.line ++ bytes) text
   pub tails : now.quits ≡ false → IsTail (rest [] text) new.tail
-  pub takes : has_party old.link.0 before ≡ true → MayTake before now ran ran'
+  pub takes : MayTake before now ran ran'
       (read_events old.link.0 [] text ++ end_events old.link.0 end)
   pub causes : LeavesAtRead (is_socket old.framing) old.link.0 before now
   pub idle : ran' ≡ 0 → (ran ≡ 0) × (now.servers.wanted ≡ before.servers.wanted)
@@ -183,8 +186,7 @@ pub record ReadServed (socket : Bool) (all read bytes text : List ℕ) (end : So
   pub ends : EndsAs end (all ++ bytes) (read ++ text)
   pub tails : now.quits ≡ false →
       IsTail (rest [] (text_of_read socket (all ++ bytes) (read ++ text))) new.tail
-  pub takes : has_party new.link.0 before ≡ true →
-      MayTake before now ran ran' (read_events new.link.0
+  pub takes : MayTake before now ran ran' (read_events new.link.0
       (rest [] (text_of_read socket all read)) (text_of_read socket bytes text)
       ++ end_events new.link.0 end)
 

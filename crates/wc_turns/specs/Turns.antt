@@ -134,11 +134,6 @@ pub record AgreesWithHeard (states : List LinkState) (used ran : ℕ) (taken : L
   pub unframed : (link : ℕ) → used < link → frames_text link history ≡ []
   pub events : ran ≡ min (length (whole history)) (2 ^ 64 - 1)
 
--- somebody is at each link that is kept
-abbrev pub HaveParties : List LinkState → CoreView → Type 0
-HaveParties states core = (link : ℕ) → is_some (at_key link_number link states) ≡ true →
-    has_party link core ≡ true
-
 -- The links that the loop keeps are those of these sockets, and connections that were refused. Each
 -- has a client or a server, also one that is leaving, and so has each connection that is still to be
 -- asked for, which has the next number.
@@ -499,13 +494,12 @@ pub record TakesHappening (old new : Headless) (heard : Heard) : Type 0 where
       new.unlisted (taken ++ happened heard)
   pub hears : (taken : List Happening) (history : List Heard) → happenings history ≡ taken →
       ((link : ℕ) → old.used < link → at_key link_number link old.links.opened.items ≡ None) →
-      new.core.quits ≡ false → HaveParties old.links.opened.items old.core
+      new.core.quits ≡ false
       → AgreesWithHeard old.links.opened.items old.used old.ran taken history →
       AgreesWithHeard new.links.opened.items new.used new.ran (taken ++ happened heard)
       (history ++ heard ∷ [])
   pub takes : (taken : List Happening) (history : List Heard) → happenings history ≡ taken →
-      HaveParties old.links.opened.items old.core
-      → AgreesWithHeard old.links.opened.items old.used old.ran taken history
+      AgreesWithHeard old.links.opened.items old.used old.ran taken history
       → MayTake old.core new.core old.ran new.ran (events_of history heard)
   pub ends : (taken : List Happening) (history : List Heard) → happenings history ≡ taken →
       AgreesWithHeard old.links.opened.items old.used old.ran taken history → EndsFor history heard

@@ -6,6 +6,8 @@ ghost use Rattle.wc_turns.specs.Sockets.{IsSocketCause, ServesSocket, ClosesSock
 ghost use Rattle.wc_turns.specs.Sockets.{ServesFrames, ServesOpened, ServesBytes, cause_of};
 ghost use Rattle.wc_turns.specs.Sockets.{then_of, ServesPiece};
 ghost use Rattle.wc_framing.specs.Framing.{is_socket};
+ghost use Rattle.wc_outside.specs.Keyed.{at_key};
+ghost use Rattle.wc_board.specs.Connections.{connection_link, is_open_at};
 ghost use Rattle.wc_turns.specs.Events.{read_events};
 ghost use Rattle.wc_turns.specs.Lines.{rest};
 ghost use Rattle.wc_turns.specs.Served.{MayTake, LeavesAtLine};
@@ -197,15 +199,28 @@ fn cause_of(why: WsRefused) -> Cause
 }
 
 /// Has the client of a WebSocket link leave, which is to be closed for this cause. That is an event,
-/// but for want of memory.
+/// but for want of memory, which does nothing to a client that is leaving already.
 fn close_socket(core: &mut Core, state: &mut LinkState, cause: Cause, ran: &mut u64)
     requires going { core.old.quits ≡ false }
     requires cause { IsSocketCause cause }
     ensures closes { ClosesSocket cause state.old state.new core.old core.new ran.old ran.new }
 {
     state.ended = true;
+    if is_spared(core, state.link, cause) {
+        return;
+    }
     count_end(cause, ran);
     core.link_gone(state.link, cause);
+}
+
+/// Whether the client of a link is spared a loss for this cause: there is no memory, and it is leaving
+/// already, so that it would be counted twice.
+fn is_spared(core: &Core, link: LinkId, cause: Cause) -> bool
+    ensures spared { result ≡ true → cause ≡ Cause.NoMemory }
+    ensures lost { result ≡ false → cause ≡ Cause.NoMemory →
+        is_open_at (at_key connection_link link.0 core.now.connections) ≡ true }
+{
+    cause == Cause::NoMemory && !core.is_open(link)
 }
 
 /// Counts the end of a WebSocket link as an event, unless it ends for want of memory.
