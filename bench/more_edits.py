@@ -10,7 +10,8 @@ With --here it works in the repository itself, over the work that `rt check` kep
 Edits of different functions are tried together, by one `rt check --only`: a proof knows nothing of other functions but
 their clauses. Where the function of an edit is proved, the whole crate is checked with that edit alone, since a caller
 may refuse it. Each edit has a line that says what came of it. The status is 1 where one is not refused, or is bad: it
-cannot be applied or compiled, or all that is wrong is that a proof file has names which the edit took away.
+cannot be applied or compiled, it makes a function that the borrow checker does not cover, or all that is wrong is that
+a proof file has names which the edit took away.
 """
 import glob
 import os
@@ -54,6 +55,9 @@ def open_goals(lines):
 
 def refusal(lines, function):
     """What rt does not prove of a function: its clauses and other goals, or what is written by hand for them."""
+    # nothing is tried of such a function, nor is what is written by hand for it read
+    if any(it.startswith(f"ahead of the check: {function}: the borrow checker does not cover") for it in lines):
+        return f"BAD EDIT: the borrow checker does not cover {function}"
     # a closure of F is named fn::F::..
     named = {name.replace("::fn::", "::"): goals for name, goals in open_goals(lines).items()}
     goals = [it for name, its in named.items() if f"{name}::".startswith(f"{function}::") for it in its]

@@ -54,6 +54,7 @@ AgreesWithSockets-first first seen f new = record {
     blocked = new.blocked;
     listens = new.listening;
     parties = λ k. refl;
+    ended = λ k over. refl;
     alone = λ k there. refl;
     once = tt;
     seats = record { apart = tt; used = tt };

@@ -1,5 +1,5 @@
 -- What the core does at an arrival.
-use Rattle.std.proofs.Common.{◌≡◌, ℕ, ◌+◌, ◌-◌, ◌^◌, ◌<◌, ◌≤◌, inl, inr, min, max, nat_lt, Bool, true, false, eqb, List, [], ◌∷◌, ◌++◌, length, cond, Option, Some, None, Result, Ok, Err, OnOk, is_err, refl, sym, ap, ◌∙◌, arith}
+use Rattle.std.proofs.Common.{◌≡◌, ℕ, ◌+◌, ◌-◌, ◌^◌, ◌<◌, ◌≤◌, inl, inr, min, max, nat_lt, Bool, true, false, eqb, List, [], ◌∷◌, ◌++◌, length, cond, Some, None, Result, Ok, Err, OnOk, is_err, refl, sym, ap, ◌∙◌, arith}
 use Rattle.std.proofs.lemmas.Bool.{false≢true}
 use Rattle.std.proofs.lemmas.Bool.Decides.{nat_tests}
 use Rattle.wc_text.specs.declared.names.LinkId.{LinkId}

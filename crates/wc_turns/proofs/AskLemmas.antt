@@ -53,6 +53,7 @@ use Rattle.wc_turns.proofs.SeatCloses.{All-front, seats-without}
 use Rattle.wc_turns.proofs.ForgetLemmas.{forgot, and-not-true, and-not-false, closed-seen, forgot-party, forgot-here, forgot-other, forgot-alone, forgot-seats, forgot-order, forgot-fewer}
 use Rattle.wc_turns.proofs.ContainedLemmas.{KeepsLinks-more, KeepsLinks-dropped}
 use Rattle.wc_turns.proofs.PartLemmas.{same-why, same-has}
+use Rattle.wc_turns.proofs.EndedLemmas.{ended-came, ended-keeps, shut-without}
 use Rattle.wc_turns.proofs.PartyLemmas.{or-assoc}
 use Rattle.wc_turns.proofs.ReadLemmas.{lost-has, lost-count, some-first, some-second}
 use Rattle.wc_turns.proofs.TurnLemmas.{AskingCall, LoopStep-ask}
@@ -119,6 +120,7 @@ among-unmade states core used listening refused a b wanted others first used' th
       listens = listening' ∙ s.listens;
       parties = λ k. s.parties k ∙ ap (λ ws. is_some (at_key link_number k states) || is_wanted k ws) first
           ∙ sym (or-assoc (is_some (at_key link_number k states)) (eqb wanted.link.0 k) (is_wanted k others)) ∙ ap (λ q. q || is_wanted k others) (sym (some k));
+      ended = ended-came states state core refl absent s.ended;
       alone = s.alone;
       once = s.once;
       seats = record { apart = s.seats.apart; used = s.seats.used };
@@ -323,6 +325,7 @@ among-dropped states core core' used listening refused' refused listed a b wante
           (λ e. (let here : k ≡ wanted.link.0 = grind (arith, nat_tests) in ap is_some (s.unknown k (omega arith))))
           (λ e. (let here : k ≡ wanted.link.0 = grind (arith, nat_tests) in others-above (used + 1) k others next.1 (omega arith)))
           ∙ ap (λ ws. is_some (at_key link_number k states) || is_wanted k ws) (sym wanted');
+      ended = λ k e. ap (λ cs. is_open_at (at_key connection_link k cs)) connections ∙ shut-without wanted.link.0 k d.lost.connections (ended-keeps states mid d.lost d.loses.keeps s.ended k e);
       alone = subst AreAlone (sym d.core) (forgot-alone wanted.link.0 d.lost (lost-alone mid core' wanted.link.0 d s.alone));
       once = subst (λ cs. Distinct (map connection_link cs)) (sym connections) (distinct-without connection_link wanted.link.0 d.lost.connections (subst Distinct (sym d.clients) s.once));
       seats = subst (λ (c : CoreView). AreSeats c.servers) (sym d.core) (forgot-seats wanted.link.0 d.lost kept);

@@ -35,8 +35,9 @@ use Rattle.wc_turns.proofs.AgreesLemmas.{For-states, SameKinds-without}
 use Rattle.wc_turns.proofs.HeardLemmas.{plain-before}
 use Rattle.wc_turns.proofs.HeardAgrees.{Hears-states, readings-kinds, socket-kinds, SameTails-without}
 use Rattle.wc_turns.proofs.CauseLemmas.{reasons-same, Onward-none}
+use Rattle.wc_turns.proofs.EndedLemmas.{ended-opens, ended-states, shut-without}
 use Rattle.wc_turns.proofs.ForgetLemmas.{forgot, departed-party, departed-closes, forgot-state, and-not-true, and-not-false, closed-seen, forgot-party, forgot-other, forgot-here, forgot-alone, forgot-seats, forgot-order, forgot-sides}
-use Rattle.wc_turns.proofs.GoneLemmas.{some-given, gone-links, gone-closes, gone-wanted, gone-used, gone-quits, gone-starved, gone-verdicts, gone-saved, gone-unwritten, gone-has, gone-state, gone-handed, gone-nothing, gone-seated, gone-order, gone-alone, gone-sides, gone-world, gone-pending, same-unsent}
+use Rattle.wc_turns.proofs.GoneLemmas.{some-given, gone-links, gone-closes, gone-wanted, gone-used, gone-quits, gone-starved, gone-verdicts, gone-saved, gone-unwritten, gone-has, gone-opens, gone-state, gone-handed, gone-nothing, gone-seated, gone-order, gone-alone, gone-sides, gone-world, gone-pending, same-unsent}
 use Rattle.wc_turns.proofs.StepLemmas.{SameSets, among-same, OnlyLinks, LoopStep-flags}
 use Rattle.wc_turns.proofs.TurnLemmas.{Call, LoopStep-step, LoopStep-still, NeverFall-refl}
 use Rattle.wc_core.proofs.OracleLemmas.{verdicts-same}
@@ -99,6 +100,7 @@ LoopStep-sent x a b link count bytes u call sent choked asked same =
       blocked = λ k. same.blocked k ∙ t.blocked k;
       listens = same.listening ∙ t.listens;
       parties = λ k. gone-has link count k x.core o refl ∙ t.parties k ∙ ap (λ ws. is_some (at_key link_number k x.links.opened.items) || is_wanted k ws) (sym wanted);
+      ended = ended-opens x.links.opened.items x.core core (gone-opens link count x.core o refl) t.ended;
       alone = gone-alone link count x.core o refl t.alone;
       once = subst Distinct (sym (gone-links link count x.core o refl)) t.once;
       seats = gone-seated link count x.core o refl t.seats;
@@ -240,6 +242,7 @@ among-close x y d a b one wanted used there undrained listening blocked s =
       listens = listening ∙ s.listens;
       parties = λ k. forgot-party k j x.core ∙ ap (λ q. q && not (eqb k j)) (s.parties k ∙ ap (λ ws. is_some (at_key link_number k states) || is_wanted k ws) wanted ∙ or-false _)
           ∙ closed-seen is_some refl link_number k j (eqb k j) refl states ∙ sym (or-false _) ∙ ap (λ ws. is_some (at_key link_number k (without link_number j states)) || is_wanted k ws) (sym wanted);
+      ended = λ k e. shut-without j k x.core.connections (ended-states states (without link_number j states) x.core (SameKinds-without j states) s.ended k e);
       alone = forgot-alone j x.core s.alone;
       once = distinct-without connection_link j x.core.connections s.once;
       seats = forgot-seats j x.core s.seats;

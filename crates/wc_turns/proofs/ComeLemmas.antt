@@ -41,6 +41,7 @@ use Rattle.wc_turns.proofs.HeardAgrees.{Hears-came, Hears-refused, socket-came}
 use Rattle.wc_turns.proofs.KeyedLemmas.{or-false, or-true, is_some-push, at_key-push_same, at_key-push_other, absent-missing, distinct-push, map-push}
 use Rattle.wc_turns.proofs.HandsLemmas.{Delivers-stays, Delivers-close}
 use Rattle.wc_turns.proofs.RunLemmas.{ReachesEvents-all}
+use Rattle.wc_turns.proofs.EndedLemmas.{ended-arrived}
 use Rattle.wc_turns.proofs.PointLemmas.{MomentAdvances-comes, MomentAdvances-same, fresh_by, spoils-more, no-client, no-server, unsent-nobody}
 use Rattle.wc_turns.proofs.AgreesLemmas.{For-came, For-refused}
 use Rattle.wc_turns.proofs.CauseLemmas.{reasons-same, reasons-more, Onward}
@@ -138,6 +139,7 @@ among-came states core used listening refused a b link nonce wanted next used' l
       parties = λ k. ap (λ p. p || is_some (at_key seat_link k core.servers.seats)) (is_some-push connection_link k connection core.connections)
           ∙ or-more (is_some (at_key connection_link k core.connections)) (is_some (at_key seat_link k core.servers.seats)) (is_some (at_key link_number k states)) (is_wanted k core.servers.wanted) (eqb link.0 k) (s.parties k)
           ∙ ap (λ q. q || is_wanted k core.servers.wanted) (sym (some k));
+      ended = ended-arrived states state core (came_core core link nonce) connection refl absent refl refl s.ended;
       alone = λ k e. alone-by nobody k (eqb link.0 k) refl (sym (is_some-push connection_link k connection core.connections) ∙ e);
       once = subst Distinct (sym (links-push core.connections connection)) (distinct-push link.0 (map connection_link core.connections) s.once (absent-missing connection_link link.0 core.connections (no-client link.0 core nobody)));
       seats = used-seats link.0 core s.seats;
@@ -340,6 +342,7 @@ among-refused states core used starved listening refused a b link wanted next us
       blocked = λ k. blocked k ∙ ap (λ q. q && not (eqb k link.0)) (s.blocked k) ∙ gone-flag is_blocked refl k link.0 (eqb k link.0) refl states absent;
       listens = listening' ∙ s.listens;
       parties = s.parties;
+      ended = s.ended;
       alone = s.alone;
       once = s.once;
       seats = used-seats link.0 core s.seats;
@@ -433,6 +436,7 @@ LoopStep-idle x a b call sent choked asked used there undrained blocked listenin
       blocked = λ k. blocked k ∙ s.blocked k;
       listens = listening ∙ and-nothing _;
       parties = s.parties;
+      ended = s.ended;
       alone = s.alone;
       once = s.once;
       seats = s.seats;

@@ -23,6 +23,7 @@ use Rattle.wc_turns.proofs.RunLemmas.{ReachesEvents-none}
 use Rattle.wc_turns.proofs.PointLemmas.{OnOneSide-none, MomentAdvances-none}
 use Rattle.wc_turns.proofs.AgreesLemmas.{For-asked}
 use Rattle.wc_turns.proofs.CauseLemmas.{Onward-none, reasons-same}
+use Rattle.wc_turns.proofs.EndedLemmas.{ended-came}
 use Rattle.wc_turns.proofs.PartyLemmas.{or-assoc}
 use Rattle.wc_turns.proofs.TurnLemmas.{AskingCall, LoopStep-ask}
 use Rattle.wc_core.proofs.OracleLemmas.{verdicts-same}
@@ -155,6 +156,7 @@ LoopStep-begun x x' y a b wanted others first same takes call used asked sent ch
           listens = listening ∙ s.listens;
           parties = λ k. s.parties k ∙ ap (λ ws. is_some (at_key link_number k x.links.opened.items) || is_wanted k ws) first
               ∙ sym (or-assoc (is_some (at_key link_number k x.links.opened.items)) (eqb wanted.link.0 k) (is_wanted k others)) ∙ ap (λ q. q || is_wanted k others) (sym (some k));
+          ended = ended-came x.links.opened.items state x.core refl (s.unknown wanted.link.0 above) s.ended;
           alone = s.alone;
           once = s.once;
           seats = record { apart = s.seats.apart; used = s.seats.used };

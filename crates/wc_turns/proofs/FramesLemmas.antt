@@ -132,7 +132,7 @@ LeavesAtRead-lost socket link why a b is h = record {
   by other false e apart here none = others other (leaving_on other a.connections) (leaving_on other b.connections) none (apart (λ q. grind (arith, nat_tests)))
 
 -- it leaves, or is spared
-pub LeavesAtRead-closed : (socket : Bool) (link : ℕ) (why : Cause) (a b : CoreView) → IsOfRead socket link link why → LosesLink link why a b ⊎ IsSpared why a b → LeavesAtRead socket link a b
+pub LeavesAtRead-closed : (socket : Bool) (link : ℕ) (why : Cause) (a b : CoreView) → IsOfRead socket link link why → LosesLink link why a b ⊎ IsSpared link why a b → LeavesAtRead socket link a b
 LeavesAtRead-closed socket link why a b is (inl loses) = LeavesAtRead-lost socket link why a b is loses
 LeavesAtRead-closed socket link why a b is (inr spared) = subst (LeavesAtRead socket link a) (sym spared.same) (LeavesAtRead-line socket link a a (LeavesAtLine-refl link a))
 
@@ -185,14 +185,22 @@ pub open-has : (link : ℕ) (core : CoreView) → is_open_at (at_key connection_
 open-has link core opened = rw opened refl
 
 -- a client that is spared takes none
-pub ClosesSocket-spared : (why : Cause) (state : LinkState) (core : CoreView) (ran : ℕ) → why ≡ NoMemory → ClosesSocket why state (record state { ended = true }) core core ran ran
-ClosesSocket-spared why state core ran starves = record {
+pub ClosesSocket-spared : (why : Cause) (state : LinkState) (core : CoreView) (ran : ℕ) → why ≡ NoMemory → is_open_at (at_key connection_link state.link.0 core.connections) ≡ false → ClosesSocket why state (record state { ended = true }) core core ran ran
+ClosesSocket-spared why state core ran starves leaves = record {
   state = refl;
   takes = rw starves (MayTake-none core ran);
-  loses = inr (record { starves = starves; same = refl });
+  loses = inr (record { starves = starves; leaves = leaves; same = refl });
   idle = λ none. none;
   wanted = refl;
 }
+
+-- its client is leaving then, or it has none
+pub ClosesSocket-shut : (why : Cause) (old new : LinkState) (a b : CoreView) (ran ran' : ℕ) → ClosesSocket why old new a b ran ran' → is_open_at (at_key connection_link old.link.0 b.connections) ≡ false
+ClosesSocket-shut why old new a b ran ran' s = by s.loses
+  where
+    by : LosesLink old.link.0 why a b ⊎ IsSpared old.link.0 why a b → is_open_at (at_key connection_link old.link.0 b.connections) ≡ false
+    by (inl loses) = loses.gone
+    by (inr spared) = ap (λ (c : CoreView). is_open_at (at_key connection_link old.link.0 c.connections)) spared.same ∙ spared.leaves
 
 -- where no event was reached after it, none was before
 pub idle-end : (why : Cause) (ran ran' : ℕ) → IsSocketCause why → (why ≡ NoMemory → ran' ≡ ran) → (why ≢ NoMemory → ran' ≡ min (ran + 1) (2 ^ 64 - 1)) → ran' ≡ 0 → ran ≡ 0

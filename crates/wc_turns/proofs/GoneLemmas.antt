@@ -5,7 +5,7 @@ use Rattle.std.proofs.lemmas.Bool.Decides.{nat_tests}
 use Rattle.std.proofs.lemmas.List.{append-nil, take-append-drop, length-append, length-drop}
 use Rattle.wc_outside.specs.Keyed.{at_key, put_at}
 use Rattle.wc_board.specs.declared.connection.Connection.{Connection}
-use Rattle.wc_board.specs.Connections.{connection_link, leaving_in, leaving_on, unsent_in, unsent_on as client_unsent_on, unsent_at, gone_at}
+use Rattle.wc_board.specs.Connections.{connection_link, is_open_at, leaving_in, leaving_on, unsent_in, unsent_on as client_unsent_on, unsent_at, gone_at}
 use Rattle.wc_core.specs.State.{Beside}
 use Rattle.wc_servers.specs.Seats.{SeatView, AreSeats, seat_link, leaving_on as server_leaving_on, unsent_in as server_unsent_in, unsent_on as server_unsent_on, unsent_at as server_unsent_at, gone_at as server_gone_at}
 use Rattle.wc_core.specs.CoreView.{CoreView}
@@ -114,6 +114,23 @@ pub gone-has : (link count k : ℕ) (core : CoreView) (o : Option Connection) �
 gone-has link count k core o e =
     ap (λ t. t || is_some (at_key seat_link k (gone_in link count core o).servers.seats)) (same-keys connection_link k (gone_in link count core o).connections core.connections (gone-links link count core o e))
     ∙ ap (λ t. is_some (at_key connection_link k core.connections) || t) (same-keys seat_link k (gone_in link count core o).servers.seats core.servers.seats (gone-seats link count core o e))
+
+-- whoever is open was so
+pub gone-opens : (link count : ℕ) (core : CoreView) (o : Option Connection) → at_key connection_link link core.connections ≡ o → (k : ℕ) → is_open_at (at_key connection_link k (gone_in link count core o).connections) ≡ is_open_at (at_key connection_link k core.connections)
+gone-opens link count core None e k = refl
+gone-opens link count core (Some s) e k = by (eqb k link) refl
+  where
+    gone : Connection
+    gone = record s { session = record s.session { unsent = drop count s.session.unsent } }
+
+    by : (t : Bool) → eqb k link ≡ t → is_open_at (at_key connection_link k (put_at connection_link link gone core.connections)) ≡ is_open_at (at_key connection_link k core.connections)
+    by true f =
+        let same : link ≡ k = grind (arith, nat_tests) in
+        let after : at_key connection_link link (put_at connection_link link gone core.connections) ≡ Some gone = at_key-put_same connection_link link s gone core.connections (at_key-key connection_link link core.connections s e) e in
+        subst (λ i. is_open_at (at_key connection_link i (put_at connection_link link gone core.connections)) ≡ is_open_at (at_key connection_link i core.connections)) same (ap is_open_at after ∙ sym (ap is_open_at e))
+    by false f =
+        let other : k ≢ link = λ q. grind (arith, nat_tests) in
+        ap is_open_at (at_key-put_other connection_link link k gone core.connections (at_key-key connection_link link core.connections s e) other)
 
 pub gone-state : (link count : ℕ) (core : CoreView) (o : Option Connection) → at_key connection_link link core.connections ≡ o → (told : Beside) → state_of (gone_in link count core o) told ≡ state_of core told
 gone-state link count core None e told = ap (λ ss. record (state_of core told) { servers = ss }) (seats-gone-open link count core.servers.seats (at_key seat_link link core.servers.seats) refl)

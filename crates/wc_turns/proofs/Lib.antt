@@ -11,6 +11,7 @@ pub mod ConnectLemmas
 pub mod ConnectionLemmas
 pub mod ContainedLemmas
 pub mod CutLaws
+pub mod EndedLemmas
 pub mod FeedLemmas
 pub mod ForgetLemmas
 pub mod FramesLemmas

@@ -18,7 +18,7 @@ use Rattle.wc_turns.specs.Links.{link_number, is_undrained, is_blocked, is_there
 use Rattle.wc_turns.specs.declared.links.Closed.{Closed}
 use Rattle.wc_turns.specs.Served.{leaving_closes}
 use Rattle.wc_turns.specs.Parties.{has_party, IsCalm, seat_closes}
-use Rattle.wc_turns.specs.Turns.{AgreesOnLinks}
+use Rattle.wc_turns.specs.Turns.{AgreesOnLinks, LeavesWhereEnded}
 use Rattle.wc_turns.proofs.KeyedLemmas.{none_of, same-keys, or-false}
 use Rattle.wc_turns.proofs.PointLemmas.{none-if, next-above}
 use Rattle.wc_turns.proofs.StepLemmas.{SameSets}
@@ -54,9 +54,9 @@ clients-above states core used listening refused a s k above = s.clients k (let 
 -- what the links have to do with clients and servers goes on so
 pub among-come : (states states' : List LinkState) (core core' : CoreView) (used : ℕ) (listening : Bool) (refused : List LinkId) (a b : Seen)
     → map link_number states' ≡ map link_number states → ((k : ℕ) → is_undrained (at_key link_number k states') ≡ is_undrained (at_key link_number k states)) → ((k : ℕ) → is_blocked (at_key link_number k states') ≡ is_blocked (at_key link_number k states)) → ((k : ℕ) → is_there (at_key link_number k states') ≡ is_there (at_key link_number k states))
-    → map connection_link core'.connections ≡ map connection_link core.connections → ServersKeep core.servers core'.servers → SameSets a b
+    → map connection_link core'.connections ≡ map connection_link core.connections → ServersKeep core.servers core'.servers → (LeavesWhereEnded states core → LeavesWhereEnded states' core') → SameSets a b
     → AgreesOnLinks states core used listening refused a → AgreesOnLinks states' core' used listening refused b
-among-come states states' core core' used listening refused a b numbers flags blocks stays clients come same s = record {
+among-come states states' core core' used listening refused a b numbers flags blocks stays clients come ended same s = record {
   counted = s.counted ∙ sym same.used;
   there = λ k. same.there k ∙ s.there k ∙ sym (stays k);
   undrained = λ k. same.undrained k ∙ s.undrained k ∙ sym (flags k);
@@ -65,6 +65,7 @@ among-come states states' core core' used listening refused a b numbers flags bl
   parties = λ k. rw (keeps k, come.links k, come.wanted, links k, wanted-append k core.servers.wanted come.more)
       (sym (or-assoc (is_some (at_key connection_link k core.connections)) (is_some (at_key seat_link k core.servers.seats)) (is_wanted k come.more))
       ∙ ap (λ t. t || is_wanted k come.more) (s.parties k) ∙ or-assoc (is_some (at_key link_number k states)) (is_wanted k core.servers.wanted) (is_wanted k come.more));
+  ended = ended s.ended;
   alone = λ k e.
       let there : is_some (at_key connection_link k core.connections) ≡ true = sym (keeps k) ∙ e in
       let none : at_key seat_link k core.servers.seats ≡ None = s.alone k there in

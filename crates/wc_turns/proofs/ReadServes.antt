@@ -1,11 +1,13 @@
 -- What a read of a link comes to, plain or a WebSocket.
-use Rattle.std.proofs.Common.{◌≡◌, ℕ, zero, suc, ◌≤◌, Bool, true, false, eqb, ◌&&◌, List, [], ◌∷◌, ◌++◌, length, Option, Some, None, is_none, refl, sym, ap, ◌∙◌, subst, arith}
+use Rattle.std.proofs.Common.{◌≡◌, ℕ, zero, suc, ◌≤◌, Bool, true, false, eqb, ◌&&◌, List, [], ◌∷◌, ◌++◌, length, Option, Some, None, is_none, inl, inr, refl, sym, ap, ◌∙◌, subst, arith}
 use Rattle.std.proofs.lemmas.Bool.{false≢true}
 use Rattle.std.proofs.lemmas.Bool.Decides.{nat_tests}
 use Rattle.std.proofs.lemmas.List.{append-nil}
 use Rattle.wc_text.specs.declared.names.Cause.{Cause}
 use Rattle.wc_text.specs.declared.names.Cause.TheVariants.{NoMemory}
 use Rattle.wc_text.specs.declared.names.LinkId.{LinkId}
+use Rattle.wc_outside.specs.Keyed.{at_key}
+use Rattle.wc_board.specs.Connections.{connection_link, is_open_at}
 use Rattle.wc_core.specs.CoreView.{CoreView}
 use Rattle.wc_ws.specs.Link.{Link}
 use Rattle.wc_framing.specs.declared.framing.Framing.{Framing}
@@ -25,7 +27,8 @@ use Rattle.wc_turns.specs.Served.{MayTake, LeavesAtLine, LeavesAtRead}
 use Rattle.wc_turns.specs.Sockets.{end_for, FedThen, ServesPiece, ClosesSocket, FeedsHeld, UnframedAs, ServesFrames, ServesOpened, ReadServed, ServesBytes}
 use Rattle.wc_turns.specs.Tails.{IsTail}
 use Rattle.wc_turns.specs.Turns.{FramedFor, EndsAs}
-use Rattle.wc_turns.proofs.FramesLemmas.{LeavesAtRead-line, LeavesAtRead-trans, LeavesAtRead-closed, own-read, MayTake-none, MayTake-then}
+use Rattle.wc_turns.proofs.EndedLemmas.{ends-before}
+use Rattle.wc_turns.proofs.FramesLemmas.{LeavesAtRead-line, LeavesAtRead-trans, LeavesAtRead-closed, ClosesSocket-shut, own-read, MayTake-none, MayTake-then}
 use Rattle.wc_turns.proofs.HeardAgrees.{framed-is}
 use Rattle.wc_turns.proofs.LineLemmas.{rest-append, rest-line}
 use Rattle.wc_turns.proofs.ServedLemmas.{LeavesAtLine-refl}
@@ -106,6 +109,7 @@ ServesFrames-plain bytes state core ran plain = record {
   text = [];
   end = GoesOn;
   state = refl;
+  leaves = λ e. inl e;
   socket = refl;
   framed = λ all read fed on q. absurd (false≢true (sym plain ∙ fed-socket all read state.framing fed));
   ends = λ all read fed. tt;
@@ -127,6 +131,7 @@ ServesFrames-goes bytes old new before after a b ran ran' is state p =
       text = s.text;
       end = GoesOn;
       state = state ∙ ap (λ e. record old { tail = new.tail; framing = framing.Socket after; ended = e }) (sym (ap (λ (l : LinkState). l.ended) state)) ∙ ap (λ f. record old { tail = new.tail; framing = f; ended = new.ended }) (sym later);
+      leaves = λ e. inl (sym (ap (λ (l : LinkState). l.ended) state) ∙ e);
       socket = ap is_socket later ∙ sym socket;
       framed = λ all read f on q. rw later (subst (λ q. FedThen (Some GoOn) q (all ++ bytes) (read ++ s.text) after) on (p.fed all read (rw is at f)));
       ends = λ all read f. tt;
@@ -154,6 +159,7 @@ ServesFrames-closes bytes old mid new before after a b c r s t why going is stat
       end = end_for why;
       state = closes.state ∙ ap (λ (l : LinkState). record l { ended = true }) state ∙ ap (λ t. record old { tail = t; framing = framing.Socket after; ended = true }) (sym tail)
           ∙ ap (λ f. record old { tail = new.tail; framing = f; ended = true }) (sym later) ∙ ap (λ e. record old { tail = new.tail; framing = new.framing; ended = e }) (sym over);
+      leaves = λ e. inr (subst (λ (l : LinkId). is_open_at (at_key connection_link l.0 c.connections) ≡ false) link (ClosesSocket-shut why mid new b c s t closes));
       socket = ap is_socket later ∙ sym socket;
       framed = λ all read f on q. absurd (false≢true (sym q ∙ over));
       ends = λ all read f. p.fed all read (rw is at f);
@@ -179,6 +185,7 @@ ServesOpened-fed bytes old mid new a b ran ran' state begun socket feeds s =
       text = s.text;
       end = s.end;
       state = s.state ∙ ap (λ (l : LinkState). record l { tail = new.tail; framing = new.framing; ended = new.ended }) state;
+      leaves = ends-before old mid new b link (ap (λ (l : LinkState). l.ended) state) s.leaves;
       socket = s.socket ∙ socket;
       framed = λ fed on q. s.framed old.tail.line [] (feeds fed) on q;
       ends = λ fed. s.ends old.tail.line [] (feeds fed);
@@ -203,6 +210,7 @@ ServesOpened-starved bytes old mid new a b ran ran' state begun socket s =
       end = GoesOn;
       state = s.state ∙ ap (λ (l : LinkState). record l { ended = true }) state ∙ ap (λ t. record old { tail = t; framing = mid.framing; ended = true }) (sym tail)
           ∙ ap (λ f. record old { tail = new.tail; framing = f; ended = true }) (sym later) ∙ ap (λ e. record old { tail = new.tail; framing = new.framing; ended = e }) (sym over);
+      leaves = λ e. inr (subst (λ (l : LinkId). is_open_at (at_key connection_link l.0 b.connections) ≡ false) link (ClosesSocket-shut NoMemory mid new a b ran ran' s));
       socket = ap is_socket later ∙ socket;
       framed = λ fed on q. absurd (false≢true (sym q ∙ over));
       ends = λ fed. tt;
@@ -228,6 +236,7 @@ ServesBytes-ended bytes state core ran over = record {
   text = [];
   end = GoesOn;
   state = refl;
+  leaves = λ e. inl e;
   plain = λ e. (refl, refl);
   serves = λ all read framed tail. by state.server refl all read (rw over at framed) tail;
   causes = LeavesAtRead-line (is_socket state.framing) state.link.0 core core (LeavesAtLine-refl state.link.0 core);
@@ -254,6 +263,7 @@ ServesBytes-text bytes old new a b ran ran' unended state opens plain tails take
   text = [];
   end = GoesOn;
   state = state ∙ ap (λ e. record old { tail = new.tail; framing = new.framing; ended = e }) (sym (ap (λ (l : LinkState). l.ended) state));
+  leaves = λ e. inl (sym (ap (λ (l : LinkState). l.ended) state) ∙ e);
   plain = λ e. (refl, refl);
   serves = λ all read framed tail. by old.server refl all read (rw unended at framed) tail;
   causes = LeavesAtRead-line (is_socket new.framing) old.link.0 a b causes;
@@ -323,6 +333,7 @@ ServesBytes-opened bytes old mid new a b ran ran' unended state opens plain s = 
   text = s.text;
   end = s.end;
   state = s.state ∙ ap (λ (l : LinkState). record l { tail = new.tail; framing = new.framing; ended = new.ended }) state;
+  leaves = ends-before old mid new b (ap (λ (l : LinkState). l.link) state) (ap (λ (l : LinkState). l.ended) state) s.leaves;
   plain = s.plain;
   serves = λ all read framed tail. by old.server refl all read (rw unended at framed) tail;
   causes = subst (λ t. LeavesAtRead t old.link.0 a b) (sym s.socket) (subst (λ (l : LinkId). LeavesAtRead (is_socket mid.framing) l.0 a b) (ap (λ (l : LinkState). l.link) state) s.causes);
@@ -358,6 +369,7 @@ ServesBytes-frames bytes old mid new a b ran ran' unended state opens plain s = 
   text = s.text;
   end = s.end;
   state = s.state ∙ ap (λ (l : LinkState). record l { tail = new.tail; framing = new.framing; ended = new.ended }) state;
+  leaves = ends-before old mid new b (ap (λ (l : LinkState). l.link) state) (ap (λ (l : LinkState). l.ended) state) s.leaves;
   plain = s.plain;
   serves = λ all read framed tail. by old.server refl all read (rw unended at framed) tail;
   causes = subst (λ t. LeavesAtRead t old.link.0 a b) (sym s.socket) (subst (λ (l : LinkId). LeavesAtRead (is_socket mid.framing) l.0 a b) (ap (λ (l : LinkState). l.link) state) s.causes);

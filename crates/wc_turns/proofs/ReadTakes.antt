@@ -1,5 +1,5 @@
 -- A read of a link is taken.
-use Rattle.std.proofs.Common.{◌≡◌, ◌≢◌, ℕ, ◌<◌, Bool, true, false, cond, eqb, ◌&&◌, List, [], ◌∷◌, ◌++◌, Option, Some, None, IfSome, is_none, refl, sym, ap, ◌∙◌, subst, arith, get_or, set}
+use Rattle.std.proofs.Common.{◌≡◌, ◌≢◌, ℕ, ◌<◌, Bool, true, false, cond, eqb, ◌&&◌, List, [], ◌∷◌, ◌++◌, map, ◌⊎◌, inl, inr, Option, Some, None, IfSome, is_none, refl, sym, ap, ◌∙◌, subst, arith, get_or, set}
 use Rattle.std.specs.List.{flat_map}
 use Rattle.std.proofs.lemmas.Bool.Decides.{nat_tests}
 use Rattle.std.proofs.lemmas.List.{append-nil}
@@ -8,6 +8,7 @@ use Rattle.wc_text.specs.declared.names.LinkId.{LinkId}
 use Rattle.wc_outside.specs.declared.happening.Happening.{Happening}
 use Rattle.wc_outside.specs.declared.happening.Happening.TheVariants.{Read}
 use Rattle.wc_outside.specs.Keyed.{at_key, put_at, IsKeyPlace}
+use Rattle.wc_board.specs.Connections.{connection_link, is_open_at, leaving_on}
 use Rattle.wc_framing.specs.Framing.{is_socket}
 use Rattle.wc_framing.specs.Opening.{begins}
 use Rattle.wc_turns.specs.declared.links.LinkState.{LinkState}
@@ -15,13 +16,15 @@ use Rattle.wc_turns.specs.declared.headless.Headless.{Headless}
 use Rattle.wc_turns.specs.Events.{bytes_on, comes_on, has_come, socket_on, text_in, tail_as, tail_on, text_of_read, read_events, end_events, text_events, came_events, events_of}
 use Rattle.wc_turns.specs.Heard.{Heard, Happened, Unframed, SocketEnd, GoesOn, happened, happenings}
 use Rattle.wc_turns.specs.Lines.{rest}
-use Rattle.wc_turns.specs.Links.{link_number, is_undrained, is_blocked, is_there, is_socket_at}
+use Rattle.wc_turns.specs.Links.{link_number, is_undrained, is_blocked, is_there, is_ended, is_socket_at}
 use Rattle.wc_core.specs.CoreView.{CoreView}
+use Rattle.wc_core.specs.Served.{Distinct}
 use Rattle.wc_turns.specs.Served.{MayTake, LeavesAtRead}
 use Rattle.wc_turns.specs.Sockets.{ReadServed, ServesBytes}
 use Rattle.wc_turns.specs.Tails.{IsTail}
-use Rattle.wc_turns.specs.Turns.{AgreesWithHeard, IsFramed, frames_text, EndsAs, EndsFor, TakesRead}
+use Rattle.wc_turns.specs.Turns.{AgreesWithHeard, IsFramed, frames_text, EndsAs, EndsFor, LeavesWhereEnded, TakesRead}
 use Rattle.wc_turns.proofs.AgreesLemmas.{For-read, text-push, bytes_on-read}
+use Rattle.wc_turns.proofs.EndedLemmas.{ended-clients, read-stays}
 use Rattle.wc_turns.proofs.HeardAgrees.{heard-more, bytes-quiet, come-quiet, socket-heard, framed-at}
 use Rattle.wc_turns.proofs.HeardLemmas.{IsQuiet, happenings-push, socket-stays, tail_as-is, tail-quiet, frames-push, frames-quiet, other-test, quiet-read}
 use Rattle.wc_turns.proofs.KeyedLemmas.{at_key-key, at_key-put_other, at_key-put_same, map-put_at, or-false}
@@ -118,6 +121,7 @@ TakesRead-serves x y link place old new bytes p at stands turns used listening r
     there = λ k. rw (opened, p.put new) (flag-put is_there link.0 k (eqb k link.0) refl old new states found number (ap (λ l. is_there (Some l)) b.state));
     clients = b.causes.links;
     servers = b.causes.servers;
+    ended = λ once before. rw (opened, p.put new) (ends once before);
     idle = λ none. (b.idle none).1;
     told = λ taken unknown on s. rw (opened, clock, used, refused, unlisted, is-read) (For-read x.clock states x.used x.ran y.ran x.refused.items x.unlisted taken link place old new bytes p at key (unknown link.0) stands (ap (λ (l : LinkState). l.connecting) b.state, ap (λ (l : LinkState). l.server) b.state) (λ none. (b.idle none).0) s);
     hears = λ taken history spells unknown on s. rw (opened, p.put new, used) (hears taken history spells unknown on s);
@@ -153,6 +157,27 @@ TakesRead-serves x y link place old new bytes p at stands turns used listening r
 
   served : (taken : List Happening) (history : List Heard) → happenings history ≡ taken → AgreesWithHeard states x.used x.ran taken history → ReadServed (is_none old.server && begins (flat_map (bytes_on link.0) taken ++ bytes)) (flat_map (bytes_on link.0) taken) (frames_text link.0 history) bytes b.text b.end new x.core y.core x.ran y.ran
   served taken history spells s = served-read states x.used x.ran taken history link old new bytes x y spells found b s
+
+  -- nothing more is read of it, or of another one, only as its client leaves
+  ends : Distinct (map connection_link x.core.connections) → LeavesWhereEnded states x.core → LeavesWhereEnded (put_at link_number link.0 new states) y.core
+  ends once before = λ k e. by k (eqb k link.0) refl e
+    where
+      stays : (k : ℕ) → is_ended (at_key link_number k states) ≡ true → is_open_at (at_key connection_link k y.core.connections) ≡ false
+      stays k e = ended-clients states x.core y.core b.causes.links (λ j leaves. read-stays socket old.link.0 j (leaving_on j x.core.connections) (leaving_on j y.core.connections) (b.causes.leaving once j) leaves) before k e
+
+      here : (old.ended ≡ true) ⊎ (is_open_at (at_key connection_link old.link.0 y.core.connections) ≡ false) → is_open_at (at_key connection_link link.0 y.core.connections) ≡ false
+      here (inl over) = stays link.0 (ap is_ended found ∙ over)
+      here (inr shut) = subst (λ (l : LinkId). is_open_at (at_key connection_link l.0 y.core.connections) ≡ false) own shut
+
+      by : (k : ℕ) (t : Bool) → eqb k link.0 ≡ t → is_ended (at_key link_number k (put_at link_number link.0 new states)) ≡ true → is_open_at (at_key connection_link k y.core.connections) ≡ false
+      by k true e q =
+          let same : link.0 ≡ k = grind (arith, nat_tests) in
+          let after : at_key link_number link.0 (put_at link_number link.0 new states) ≡ Some new = at_key-put_same link_number link.0 old new states number found in
+          let over : new.ended ≡ true = sym (ap is_ended after) ∙ subst (λ i. is_ended (at_key link_number i (put_at link_number link.0 new states)) ≡ true) (sym same) q in
+          subst (λ i. is_open_at (at_key connection_link i y.core.connections) ≡ false) same (here (b.leaves over))
+      by k false e q =
+          let other : k ≢ link.0 = λ r. grind (arith, nat_tests) in
+          stays k (sym (ap is_ended (at_key-put_other link_number link.0 k new states number other)) ∙ q)
 
   -- whether it is a WebSocket by now
   index : (taken : List Happening) (history : List Heard) → AgreesWithHeard states x.used x.ran taken history → socket_on link.0 (taken ++ Read link bytes ∷ []) ≡ (is_none old.server && begins (flat_map (bytes_on link.0) taken ++ bytes))

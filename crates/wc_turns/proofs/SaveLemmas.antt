@@ -29,6 +29,7 @@ agrees-written h seen s =
         blocked = a.blocked;
         listens = a.listens;
         parties = a.parties;
+        ended = a.ended;
         alone = a.alone;
         once = a.once;
         seats = a.seats;

@@ -6,7 +6,7 @@ use Rattle.std.proofs.lemmas.List.{append-nil, length-drop}
 use Rattle.wc_outside.specs.Seen.{Seen}
 use Rattle.wc_outside.specs.Keyed.{at_key, put_at}
 use Rattle.wc_board.specs.declared.connection.Connection.{Connection}
-use Rattle.wc_board.specs.Connections.{connection_link}
+use Rattle.wc_board.specs.Connections.{connection_link, is_open_at}
 use Rattle.wc_core.specs.State.{Beside}
 use Rattle.wc_servers.specs.Seats.{AreSeats, seat_link}
 use Rattle.wc_core.specs.CoreView.{CoreView}
@@ -39,7 +39,8 @@ use Rattle.wc_turns.proofs.AskedLemmas.{unsent-party}
 use Rattle.wc_turns.proofs.ReadLemmas.{kept-party}
 use Rattle.wc_turns.proofs.ChangedLemmas.{keeps-written, keeps-gone, kind-gone, at_key-changed, changed, numbers-changed, SameTails-changed, SameKinds-changed, undrained-gone, blocked-gone, there-as}
 use Rattle.wc_turns.proofs.CloseLemmas.{core-means, LoopStep-refl, Call-refl, SameSets-refl}
-use Rattle.wc_turns.proofs.GoneLemmas.{none-given, some-given, left-by, gone-links, gone-seats, gone-closes, gone-wanted, gone-used, gone-quits, gone-starved, gone-verdicts, gone-saved, gone-unwritten, gone-why, gone-other, gone-has, gone-state, gone-handed, gone-nothing, gone-less, gone-seated, gone-order, gone-alone, gone-sides, gone-world, gone-pending, same-unsent}
+use Rattle.wc_turns.proofs.EndedLemmas.{ended-opens, ended-states}
+use Rattle.wc_turns.proofs.GoneLemmas.{none-given, some-given, left-by, gone-links, gone-seats, gone-closes, gone-wanted, gone-used, gone-quits, gone-starved, gone-verdicts, gone-saved, gone-unwritten, gone-why, gone-other, gone-has, gone-opens, gone-state, gone-handed, gone-nothing, gone-less, gone-seated, gone-order, gone-alone, gone-sides, gone-world, gone-pending, same-unsent}
 use Rattle.wc_turns.proofs.HeardAgrees.{Hears-states, readings-kinds, socket-kinds}
 use Rattle.wc_turns.proofs.HeardLemmas.{plain-before}
 use Rattle.wc_turns.proofs.KeyedLemmas.{at_key-key, at_key-put_same, at_key-put_other, map-put_at, none_of, same-keys}
@@ -67,6 +68,7 @@ pub record KeepsAll (link : ℕ) (x y : CoreView) : Type 0 where
   pub why : leaving_of link y ≡ leaving_of link x
   pub parties : (k : ℕ) → k ≢ link → SameParty k x y
   pub has : (k : ℕ) → has_party k y ≡ has_party k x
+  pub opens : (k : ℕ) → is_open_at (at_key connection_link k y.connections) ≡ is_open_at (at_key connection_link k x.connections)
   pub state : (told : Beside) → state_of y told ≡ state_of x told
   pub world : y.world ≡ x.world
   pub pending : y.pending ≡ x.pending
@@ -90,6 +92,7 @@ KeepsAll-refl link x = record {
   why = refl;
   parties = λ k n. SameParty-refl k x;
   has = λ k. refl;
+  opens = λ k. refl;
   state = λ told. refl;
   world = refl;
   pending = refl;
@@ -114,6 +117,7 @@ KeepsAll-gone link count core o e = record {
   why = gone-why link count core o e;
   parties = λ k n. gone-other link count k core o e n;
   has = λ k. gone-has link count k core o e;
+  opens = gone-opens link count core o e;
   state = λ told. gone-state link count core o e told;
   world = gone-world link count core o;
   pending = gone-pending link count core o;
@@ -149,6 +153,7 @@ LoopStep-kept x core links a b link kept states closed call choked asked same ha
       blocked = λ k. same.blocked k ∙ s.blocked k ∙ sym (states.blocked k);
       listens = same.listening ∙ s.listens;
       parties = λ k. kept.has k ∙ s.parties k ∙ ap (λ t. t || is_wanted k x.core.servers.wanted) (sym (there k)) ∙ ap (λ ws. is_some (at_key link_number k links.opened.items) || is_wanted k ws) (sym kept.wanted);
+      ended = ended-opens links.opened.items x.core core kept.opens (ended-states x.links.opened.items links.opened.items x.core states.kinds s.ended);
       alone = kept.alone s.alone;
       once = subst Distinct (sym kept.links) s.once;
       seats = kept.seated s.seats;

@@ -36,6 +36,7 @@ use Rattle.wc_turns.proofs.HeardLemmas.{quiet-happened, socket-stays}
 use Rattle.wc_turns.proofs.HeardAgrees.{Hears-quiet, Hears-states, readings-kinds, socket-kinds}
 use Rattle.wc_turns.proofs.CauseLemmas.{Onward-none, reasons-same}
 use Rattle.wc_turns.proofs.ChangedLemmas.{there-as}
+use Rattle.wc_turns.proofs.EndedLemmas.{ended-states}
 use Rattle.wc_turns.proofs.SeatLemmas.{open-none, shut-leaving}
 use Rattle.wc_turns.proofs.TurnLemmas.{Call, LoopStep-step, LoopStep-still}
 use Rattle.wc_core.proofs.OracleLemmas.{Stay-refl}
@@ -58,6 +59,7 @@ among-same states core used listening refused a b same s = record {
   blocked = λ k. same.blocked k ∙ s.blocked k;
   listens = same.listening ∙ s.listens;
   parties = s.parties;
+  ended = s.ended;
   alone = s.alone;
   once = s.once;
   seats = s.seats;
@@ -218,6 +220,7 @@ LoopStep-flags x y a b only call sent choked asked used there listening numbers 
       blocked = λ k. blocked k s;
       listens = listening ∙ s.listens;
       parties = λ k. s.parties k ∙ ap (λ b'. b' || is_wanted k x.core.servers.wanted) (sym (links k));
+      ended = ended-states x.links.opened.items y.links.opened.items x.core kinds s.ended;
       alone = s.alone;
       once = s.once;
       seats = s.seats;

@@ -25,7 +25,7 @@ use Rattle.wc_core.proofs.ConnectionLemmas.{client-missing}
 use Rattle.wc_board.specs.Served.{StaysOrStarves}
 use Rattle.wc_turns.specs.declared.links.LinkState.{LinkState}
 use Rattle.wc_turns.specs.declared.headless.Headless.{Headless}
-use Rattle.wc_turns.specs.Links.{link_number, is_undrained, is_blocked, is_there, is_connecting, is_socket_at, changed_at, standing_state, IsConnecting}
+use Rattle.wc_turns.specs.Links.{link_number, is_undrained, is_blocked, is_there, is_ended, is_connecting, is_socket_at, changed_at, standing_state, IsConnecting}
 use Rattle.wc_turns.specs.Events.{bytes_on, comes_on, has_come, socket_on, happening_events, events_of}
 use Rattle.wc_turns.specs.Heard.{Heard, Happened, NotPut, happened}
 use Rattle.wc_turns.specs.Parties.{asks_of, asks_in, closes_asked, seat_closes, IsCalm}
@@ -37,6 +37,7 @@ use Rattle.wc_turns.proofs.KeyedLemmas.{at_key-key, at_key-put_same, at_key-put_
 use Rattle.wc_turns.proofs.RunLemmas.{ReachesEvents-all}
 use Rattle.wc_turns.proofs.PointLemmas.{AreAlone, seats-above, sides-kept, MomentAdvances-takes, asks_of-append}
 use Rattle.wc_turns.proofs.ChangedLemmas.{changed, keeps-standing, at_key-changed, numbers-changed, SameTails-changed}
+use Rattle.wc_turns.proofs.EndedLemmas.{ended-keeps}
 use Rattle.wc_turns.proofs.ClosingLemmas.{IsOf, IsApart, parted, run-one, all-front}
 use Rattle.wc_turns.proofs.ConnectionLemmas.{calm-leaving, closes-all, one-closes}
 use Rattle.wc_turns.proofs.ServedLemmas.{MayRun-one}
@@ -91,6 +92,7 @@ TakesHappening-lost x y h event going quiet nobody timeless keeps unstanding eve
   there = λ k. rw links refl;
   clients = (does (plain_beside x.core)).keeps.links;
   servers = (does (plain_beside x.core)).keeps.servers;
+  ended = λ once h. rw links (ended-keeps x.links.opened.items x.core y.core (does (plain_beside x.core)).keeps h);
   idle = λ none. absurd (omega arith);
   told = λ taken unknown on s. rw (links, clock, used, refused, unlisted) (For-quiet x.clock x.links.opened.items x.used x.ran y.ran x.refused.items x.unlisted taken h 1 quiet timeless keeps unstanding (omega arith) (omega arith) s);
   hears = λ taken history spells unknown on s. rw (links, used) (Hears-quiet x.links.opened.items x.used x.used x.ran y.ran taken history (Happened h) spells (quiet-happened h quiet nobody) (omega arith) (let e = ap length (events history) in omega arith) s);
@@ -115,6 +117,7 @@ TakesHappening-broken x y link going turns used listening refused unlisted clock
   there = λ k. ap (λ l. is_there (at_key link_number k l.opened.items)) links;
   clients = (does (plain_beside x.core)).keeps.links;
   servers = (does (plain_beside x.core)).keeps.servers;
+  ended = λ once h. rw links (ended-keeps x.links.opened.items x.core y.core (does (plain_beside x.core)).keeps h);
   idle = λ none. absurd (omega arith);
   told = λ taken unknown on s. rw (append-nil taken, links, clock, used, refused, unlisted) (For-reached x.clock x.links.opened.items x.used x.ran y.ran x.refused.items x.unlisted taken (λ z. omega arith) s);
   hears = λ taken history spells unknown on s. rw (links, used) (Hears-quiet x.links.opened.items x.used x.used x.ran y.ran taken history (NotPut link) spells (quiet-notput link) (omega arith) ran s);
@@ -138,6 +141,7 @@ TakesHappening-stands x y link going connecting turns used listening refused unl
   there = λ k. rw opened (flag-stands is_there (λ state. refl) k);
   clients = (does (plain_beside x.core)).keeps.links;
   servers = (does (plain_beside x.core)).keeps.servers;
+  ended = λ once h. rw opened (ended-keeps (changed_at link.0 standing_state states (at_key link_number link.0 states)) x.core y.core (does (plain_beside x.core)).keeps (λ k e. h k (sym (flag-stands is_ended (λ state. refl) k) ∙ e)));
   idle = λ none. absurd (omega arith);
   told = λ taken unknown on s. rw (opened, clock, used, refused, unlisted) (For-stands x.clock states x.used x.ran y.ran x.refused.items x.unlisted taken link (within unknown (nat_le link.0 x.used) refl) ran s);
   hears = λ taken history spells unknown on s. rw (opened, used) (Hears-states states (changed_at link.0 standing_state states (at_key link_number link.0 states)) x.used y.ran (taken ++ Connected link ∷ []) (history ++ Happened (Connected link) ∷ []) (SameTails-changed link.0 standing_state keeps-standing states) readings
@@ -282,7 +286,7 @@ LoopStep-takes x y link a b h n wake faults call sent choked asked same calm goi
     })
   where
     among : AgreesOnLinks x.links.opened.items x.core x.used x.listening x.refused.items a → AgreesOnLinks y.links.opened.items y.core x.used x.listening x.refused.items b
-    among s = among-come x.links.opened.items y.links.opened.items x.core y.core x.used x.listening x.refused.items a b takes.numbers takes.undrained takes.blocked takes.there takes.clients takes.servers same s
+    among s = among-come x.links.opened.items y.links.opened.items x.core y.core x.used x.listening x.refused.items a b takes.numbers takes.undrained takes.blocked takes.there takes.clients takes.servers (takes.ended s.once) same s
 
 -- ---- causes
 

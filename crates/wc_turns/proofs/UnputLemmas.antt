@@ -27,6 +27,7 @@ use Rattle.wc_turns.proofs.ArriveLemmas.{no-starving}
 use Rattle.wc_turns.proofs.CauseLemmas.{Onward-none, reasons-more}
 use Rattle.wc_turns.proofs.CloseLemmas.{Call-refl, SameSets-refl}
 use Rattle.wc_turns.proofs.ClosingLemmas.{broken-of}
+use Rattle.wc_turns.proofs.EndedLemmas.{ended-keeps}
 use Rattle.wc_turns.proofs.PartyLemmas.{among-come}
 use Rattle.wc_turns.proofs.PointLemmas.{sides-kept}
 use Rattle.wc_turns.proofs.RunLemmas.{ReachesEvents-none}
@@ -78,7 +79,7 @@ starved-step x core link a there loses starved calm going =
     (λ s. reasons-more x y a a (closes_asked core) grows (causes-lost link NoMemory x y a a [] calm loses s.among.once (keep.seats s.among.seats) (sides-kept x.core core keep) (λ t. sym (append-nil a.taken)) (λ k. refl) tt))
     (λ s. sides-kept x.core core keep) (λ s. Onward-none x.core core [] (let r = keep.reached in omega arith) (λ k. refl))
     (λ over. loses.quits ∙ over) (λ t s. loses.keeps.saves)
-    (λ s. among-come states states x.core core x.used x.listening x.refused.items a a refl (λ k. refl) (λ k. refl) (λ k. refl) loses.keeps.links keep (SameSets-refl a) s)
+    (λ s. among-come states states x.core core x.used x.listening x.refused.items a a refl (λ k. refl) (λ k. refl) (λ k. refl) loses.keeps.links keep (ended-keeps states x.core core loses.keeps) (SameSets-refl a) s)
     (λ t s on. rw (append-nil a.taken) (s.told t going))
     (λ t s on. rw (append-nil a.taken, append-nil s.history) (s.hears t going))
     (λ t s k e. rw (append-nil a.taken) (s.sockets t k e))

@@ -30,7 +30,7 @@ use Rattle.wc_turns.specs.declared.links.Closed.{Closed}
 use Rattle.wc_turns.specs.Contained.{is_known, HasStarved, KeepsLinks}
 use Rattle.wc_turns.specs.Events.{is_tick, clock, clock_from, wake_events, loss_of, refused_since}
 use Rattle.wc_turns.specs.Links.{link_number, is_undrained, is_blocked, changed_at, reported_state, is_there, kind_of, IsUnkept, AreAllBut}
-use Rattle.wc_turns.specs.Served.{leaving_closes, closed_number, MayRun, ReachesEvents}
+use Rattle.wc_turns.specs.Served.{leaving_closes, closed_number, MayRun}
 use Rattle.wc_turns.specs.Steps.{MarksLink, ReportsSources, BeginsTurn, SameKinds, TakesAside, WakesParties}
 use Rattle.wc_turns.specs.Turns.{LoopStep, CausedBy, moment, closed_so_far, AgreesWithHappenings, AgreesOnLinks, AgreesWithSockets, MomentAdvances, HasCause, HasReason}
 use Rattle.wc_turns.specs.Waits.{LosesNone}
@@ -60,6 +60,7 @@ use Rattle.wc_turns.specs.Parties.{IsVacant, is_refused, asks_of, asks_in, seat_
 use Rattle.wc_turns.proofs.LossLemmas.{stays-further}
 use Rattle.wc_turns.proofs.ListedLemmas.{but-weaker}
 use Rattle.wc_turns.proofs.VacantLemmas.{vacant-keeps}
+use Rattle.wc_turns.proofs.EndedLemmas.{ended-keeps, ended-states}
 use Rattle.wc_turns.proofs.PartyLemmas.{among-come, party-used, clients-above, calm-clients, calm-seats}
 use Rattle.wc_turns.proofs.SeatLemmas.{calm-partings}
 use Rattle.wc_turns.proofs.CauseLemmas.{turn-reasons, Onward-none}
@@ -283,7 +284,7 @@ among-woke x z y a b m tokens used there undrained listening blocked tokens_ther
     let numbers : map link_number z.links.opened.items ≡ map link_number x.links.opened.items = reports.numbers ∙ ap (λ o. map link_number o) begins.opened in
     let kinds : SameKinds x.links.opened.items z.links.opened.items = subst (λ o. SameKinds o z.links.opened.items) begins.opened reports.kinds in
     let keeps : KeepsClients x.core z.core = subst (KeepsClients x.core) (sym reports.core) begins.keeps in
-    let came = among-come x.links.opened.items x.links.opened.items x.core z.core x.used x.listening x.refused.items a a refl (λ k. refl) (λ k. refl) (λ k. refl) keeps.links keeps.servers (record { used = refl; there = λ k. refl; undrained = λ k. refl; blocked = λ k. refl; listening = refl }) s in
+    let came = among-come x.links.opened.items x.links.opened.items x.core z.core x.used x.listening x.refused.items a a refl (λ k. refl) (λ k. refl) (λ k. refl) keeps.links keeps.servers (ended-keeps x.links.opened.items x.core z.core keeps) (record { used = refl; there = λ k. refl; undrained = λ k. refl; blocked = λ k. refl; listening = refl }) s in
     let known : (k : ℕ) → is_some (at_key link_number k z.links.opened.items) ≡ is_some (at_key link_number k x.links.opened.items) = λ k. same-keys link_number k z.links.opened.items x.links.opened.items numbers in
     rw (none, reports.used ∙ begins.used) (record {
       counted = s.counted ∙ sym used;
@@ -293,6 +294,7 @@ among-woke x z y a b m tokens used there undrained listening blocked tokens_ther
       blocked = λ k. blocked k ∙ ap (λ q. q && not (list_any (is_link k) tokens)) (s.blocked k ∙ ap (λ o. is_blocked (at_key link_number k o)) (sym begins.opened)) ∙ sym (reports.blocked k);
       listens = listening ∙ ap (λ q. q || list_any is_listener tokens) (s.listens ∙ sym begins.listening) ∙ sym reports.listening;
       parties = λ k. came.parties k ∙ ap (λ q. q || is_wanted k z.core.servers.wanted) (sym (known k));
+      ended = ended-states x.links.opened.items z.links.opened.items z.core kinds came.ended;
       alone = came.alone;
       once = came.once;
       seats = came.seats;

@@ -47,6 +47,11 @@ abbrev pub is_there : Option LinkState → Bool
 is_there (Some state) = not state.refused
 is_there None = false
 
+-- whether a link is kept of which nothing more is read, since it is to be closed as a WebSocket
+abbrev pub is_ended : Option LinkState → Bool
+is_ended (Some state) = state.ended
+is_ended None = false
+
 -- to whom a link leads: the name of a server, or none for a client; whether it is a connection that
 -- does not stand yet; whether that was refused as it was asked for; and how its bytes are framed, but
 -- for what is to be sent; and whether it is to be closed as a WebSocket

@@ -6,7 +6,7 @@ use Rattle.wc_text.specs.declared.names.Cause.TheVariants.{Ended, Failed, LoginF
 use Rattle.wc_text.specs.declared.names.Cause.TheVariants.{Surplus, Quit, Disconnected, NickTaken}
 use Rattle.wc_text.specs.declared.names.Cause.TheVariants.{BadSocket}
 use Rattle.wc_outside.specs.Keyed.{at_key, put_at}
-use Rattle.wc_board.specs.Connections.{connection_link}
+use Rattle.wc_board.specs.Connections.{connection_link, is_open_at}
 use Rattle.wc_core.specs.CoreView.{CoreView}
 use Rattle.wc_core.specs.LinksSeen.{bytes_or, unsent_in_core, gone_in}
 use Rattle.wc_ws.specs.declared.names.PutRefused.{PutRefused}
@@ -113,9 +113,11 @@ pub record ServesPiece (link : ℕ) (piece : List ℕ) (then : WsThen) (old new 
   pub fed : (bytes read : List ℕ) → Fed bytes read old →
       FedThen (Some then) now.quits (bytes ++ piece) (read ++ serves.text) new
 
--- a client is spared a loss for this cause: it is one for want of memory, which changes nothing
-pub record IsSpared (cause : Cause) (before now : CoreView) : Type 0 where
+-- the client of a link is spared a loss for this cause: it is one for want of memory, which changes
+-- nothing, since it is leaving already
+pub record IsSpared (link : ℕ) (cause : Cause) (before now : CoreView) : Type 0 where
   pub starves : cause ≡ NoMemory
+  pub leaves : is_open_at (at_key connection_link link before.connections) ≡ false
   pub same : now ≡ before
 
 -- The client of a WebSocket link begins to leave, if it was not leaving, and nothing more is read of
@@ -124,9 +126,14 @@ pub record ClosesSocket (cause : Cause) (old new : LinkState) (before now : Core
     (ran ran' : ℕ) : Type 0 where
   pub state : new ≡ record old { ended = true }
   pub takes : MayTake before now ran ran' (end_events old.link.0 (end_for cause))
-  pub loses : LosesLink old.link.0 cause before now ⊎ IsSpared cause before now
+  pub loses : LosesLink old.link.0 cause before now ⊎ IsSpared old.link.0 cause before now
   pub idle : ran' ≡ 0 → ran ≡ 0
   pub wanted : now.servers.wanted ≡ before.servers.wanted
+
+-- nothing more is read of a link where that was so before, or as its client leaves
+abbrev pub EndsAsItLeaves : LinkState → LinkState → CoreView → Type 0
+EndsAsItLeaves old new now = new.ended ≡ true → (old.ended ≡ true)
+    ⊎ (is_open_at (at_key connection_link old.link.0 now.connections) ≡ false)
 
 -- a WebSocket is fed what was held of its link
 abbrev pub FeedsHeld : LinkState → LinkState → Type 0
@@ -145,6 +152,7 @@ pub record ServesFrames (bytes : List ℕ) (old new : LinkState) (before now : C
   pub text : List ℕ
   pub end : SocketEnd
   pub state : new ≡ record old { tail = new.tail; framing = new.framing; ended = new.ended }
+  pub leaves : EndsAsItLeaves old new now
   pub socket : is_socket new.framing ≡ is_socket old.framing
   pub framed : (all read : List ℕ) → FedAs all read old.framing → now.quits ≡ false →
       new.ended ≡ false → UnframedAs (all ++ bytes) (read ++ text) new.framing
@@ -166,6 +174,7 @@ pub record ServesOpened (bytes : List ℕ) (old new : LinkState) (before now : C
   pub text : List ℕ
   pub end : SocketEnd
   pub state : new ≡ record old { tail = new.tail; framing = new.framing; ended = new.ended }
+  pub leaves : EndsAsItLeaves old new now
   pub socket : is_socket new.framing ≡ is_socket old.framing
   pub framed : FedAs [] [] old.framing → now.quits ≡ false → new.ended ≡ false →
       UnframedAs (old.tail.line ++ bytes) text new.framing
@@ -195,6 +204,7 @@ pub record ServesBytes (bytes : List ℕ) (old new : LinkState) (before now : Co
   pub text : List ℕ
   pub end : SocketEnd
   pub state : new ≡ record old { tail = new.tail; framing = new.framing; ended = new.ended }
+  pub leaves : EndsAsItLeaves old new now
   -- what is no WebSocket comes to no text of frames
   pub plain : is_socket new.framing ≡ false → (text ≡ []) × (end ≡ GoesOn)
   pub serves : (all read : List ℕ) → IsFramed all read old →

@@ -23,7 +23,7 @@ use Rattle.wc_outside.specs.declared.happening.Failed.{Failed as Fault}
 use Rattle.wc_core.specs.Events.{Event}
 use Rattle.wc_core.specs.CoreView.{CoreView}
 use Rattle.wc_core.specs.Step.{run}
-use Rattle.wc_board.specs.Connections.{connection_link}
+use Rattle.wc_board.specs.Connections.{connection_link, is_open_at}
 use Rattle.wc_servers.specs.Outs.{lines_to}
 use Rattle.wc_servers.specs.Seats.{seat_link, AreSeats}
 use Rattle.wc_core.specs.Served.{state_of, WereTold, Means, Distinct, KeepsSaved, outs_of, sent_to}
@@ -48,7 +48,7 @@ use Rattle.wc_turns.specs.Hands.{Point, Delivers}
 use Rattle.wc_turns.specs.Heard.{Heard, Happened, Unframed, NotPut, happened, happenings}
 use Rattle.wc_turns.specs.Heard.{SocketEnd, GoesOn, Closes, Broken}
 use Rattle.wc_turns.specs.Links.{link_number, is_undrained, is_blocked, is_connecting, is_there}
-use Rattle.wc_turns.specs.Links.{frames_of, is_socket_at, IsUnkept, AreAllBut}
+use Rattle.wc_turns.specs.Links.{frames_of, is_socket_at, is_ended, IsUnkept, AreAllBut}
 use Rattle.wc_turns.specs.Run.{closings, EndsAtQuit}
 use Rattle.wc_turns.specs.Parties.{has_party, unsent_on, owed_to, asks_of, asks_in, is_refused}
 use Rattle.wc_turns.specs.Parties.{closes_asked}
@@ -134,6 +134,11 @@ pub record AgreesWithHeard (states : List LinkState) (used ran : ℕ) (taken : L
   pub unframed : (link : ℕ) → used < link → frames_text link history ≡ []
   pub events : ran ≡ min (length (whole history)) (2 ^ 64 - 1)
 
+-- where nothing more is read of a link, its client is leaving, or it has none
+abbrev pub LeavesWhereEnded : List LinkState → CoreView → Type 0
+LeavesWhereEnded states core = (link : ℕ) → is_ended (at_key link_number link states) ≡ true →
+    is_open_at (at_key connection_link link core.connections) ≡ false
+
 -- The links that the loop keeps are those of these sockets, and connections that were refused. Each
 -- has a client or a server, also one that is leaving, and so has each connection that is still to be
 -- asked for, which has the next number.
@@ -146,6 +151,7 @@ pub record AgreesOnLinks (states : List LinkState) (core : CoreView) (used : ℕ
   pub listens : seen.listening ≡ listening
   pub parties : (link : ℕ) → has_party link core
       ≡ (is_some (at_key link_number link states) || is_wanted link core.servers.wanted)
+  pub ended : LeavesWhereEnded states core
   -- no link has both
   pub alone : (link : ℕ) → is_some (at_key connection_link link core.connections) ≡ true →
       at_key seat_link link core.servers.seats ≡ None
@@ -483,6 +489,9 @@ pub record TakesHappening (old new : Headless) (heard : Heard) : Type 0 where
       ≡ is_there (at_key link_number link old.links.opened.items)
   pub clients : map connection_link new.core.connections ≡ map connection_link old.core.connections
   pub servers : ServersKeep old.core.servers new.core.servers
+  pub ended : Distinct (map connection_link old.core.connections) →
+      LeavesWhereEnded old.links.opened.items old.core →
+      LeavesWhereEnded new.links.opened.items new.core
   -- where no event was reached yet, no connection came to be wanted
   pub idle : new.ran ≡ 0 → new.core.servers.wanted ≡ old.core.servers.wanted
   pub told : (taken : List Happening) →

@@ -217,6 +217,8 @@ fn close_socket(core: &mut Core, state: &mut LinkState, cause: Cause, ran: &mut 
 /// already, so that it would be counted twice.
 fn is_spared(core: &Core, link: LinkId, cause: Cause) -> bool
     ensures spared { result ≡ true → cause ≡ Cause.NoMemory }
+    ensures leaves { result ≡ true →
+        is_open_at (at_key connection_link link.0 core.now.connections) ≡ false }
     ensures lost { result ≡ false → cause ≡ Cause.NoMemory →
         is_open_at (at_key connection_link link.0 core.now.connections) ≡ true }
 {

@@ -5,7 +5,7 @@ use Rattle.wc_turns.proofs.SeatLemmas.{loses-keeps}
 use Rattle.wc_turns.proofs.sockets.close_socket.Goals as goal
 
 pub returns-then-is_spared : goal.returns-then-is_spared
-returns-then-is_spared c = record { closes = ClosesSocket-spared c.args.cause c.args.state.now c.args.core.now c.args.ran.now (c.is_spared.ensures.spared c.if-is_spared.true) }
+returns-then-is_spared c = record { closes = ClosesSocket-spared c.args.cause c.args.state.now c.args.core.now c.args.ran.now (c.is_spared.ensures.spared c.if-is_spared.true) (c.is_spared.ensures.leaves c.if-is_spared.true) }
 
 pub returns : goal.returns
 returns c =
