@@ -16,6 +16,7 @@ pub mod ServerCloses
 pub mod ReplyLemmas
 pub mod PushBytes
 pub mod PushLemmas
+pub mod LineLemmas
 pub mod LinkLemmas
 pub mod ServerLemmas
 pub mod ServedLemmas

@@ -12,12 +12,13 @@ ghost use Rattle.wc_core.specs.Served.{ChangesBuffers};
 ghost use Rattle.wc_core.specs.Inputs.{MakesChange, RefusesChange, GoesOn, Stops};
 
 use crate::core_state::Core;
+use crate::lines::cut_line;
 use crate::refusals::refusal_text;
 use crate::resolve::{Resolution, resolve, told_refusal};
 use crate::typed::read_typed;
 use std::mem;
 use wc_model::{Change, ChangeRefused};
-use wc_text::{Handle, NoMemory, Text, split_once};
+use wc_text::{Handle, NoMemory, Text};
 
 /// The most `/eval`s that may be inside one another.
 const MOST_EVALS: u32 = 32;
@@ -45,7 +46,7 @@ impl Core {
     {
         let mut left = Some(text);
         while let Some(rest) = left {
-            let (line, following) = split_once(rest, b'\n');
+            let (line, following) = cut_line(rest);
             if !self.has_buffer(buffer) {
                 return;
             }

@@ -12,6 +12,7 @@ mod core_state;
 mod core_typed;
 mod evaluated;
 mod limits;
+mod lines;
 mod refusals;
 mod resolve;
 mod typed;

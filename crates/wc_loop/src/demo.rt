@@ -44,6 +44,7 @@ fn ample_end(outcome: Outcome) -> Option<Headless>
         return None;
     };
     if ending.status() != 8 || last.starved() > 0 {
+        drop(last);
         return None;
     }
     Some(last)

@@ -185,6 +185,7 @@ fn last_state(headless: Headless) -> Option<Headless>
     ensures { result ≡ kept_of headless }
 {
     if headless.turns() == 0 {
+        drop(headless);
         return None;
     }
     Some(headless)
@@ -226,6 +227,7 @@ pub(crate) fn run<S: Sockets, K: Keeper>(
         Err(ending) => return Outcome { ending, last: None },
     };
     let Ok(()) = sockets.listen(port) else {
+        drop(headless);
         return Outcome {
             ending: Ending::ListenFailed,
             last: None,

@@ -9,23 +9,23 @@ use Rattle.wc_core.proofs.core_state.Core.run_lines.Goals as goal
 use Rattle.wc_core.specs.Contained.{Runs}
 
 pub run_line-requires-clause-text : goal.run_line-requires-clause-text
-run_line-requires-clause-text c = rw c.split_once.ensures.front (first_utf8 c.in-Some.rest.now (subst LeftUtf8 c.in-Some.is c.loop-left.invariant.text))
+run_line-requires-clause-text c = rw c.cut_line.ensures.front (first_utf8 c.in-Some.rest.now (subst LeftUtf8 c.in-Some.is c.loop-left.invariant.text))
 
 pub returns-then-not-has_buffer : goal.returns-then-not-has_buffer
 returns-then-not-has_buffer c = c.loop-left.invariant.onward c.loop-left.self
-    (gone_left c.loop-left.self c.args.buffer c.loop-left.left c.in-Some.rest c.split_once.result.0.now c.split_once.result.1 c.in-Some.is c.split_once.ensures.front c.split_once.ensures.back
+    (gone_left c.loop-left.self c.args.buffer c.loop-left.left c.in-Some.rest c.cut_line.result.0.now c.cut_line.result.1 c.in-Some.is c.cut_line.ensures.front c.cut_line.ensures.back
     (sym c.has_buffer.ensures ∙ c.if-not-has_buffer.true))
 
 pub returns-then-run_line : goal.returns-then-run_line
 returns-then-run_line c = c.loop-left.invariant.onward c.run_line.new.self
-    (quit_left c.loop-left.self c.run_line.new.self c.args.buffer c.loop-left.left c.in-Some.rest c.split_once.result.0.now c.split_once.result.1 c.in-Some.is c.split_once.ensures.front c.split_once.ensures.back
+    (quit_left c.loop-left.self c.run_line.new.self c.args.buffer c.loop-left.left c.in-Some.rest c.cut_line.result.0.now c.cut_line.result.1 c.in-Some.is c.cut_line.ensures.front c.cut_line.ensures.back
     (sym c.has_buffer.ensures ∙ c.if-not-has_buffer.false) (c.run_line.ensures.stops c.if-run_line.true))
 
 pub loop-left-preserved : goal.loop-left-preserved
 loop-left-preserved c = record {
-  text = others_utf8 c.in-Some.rest.now c.split_once.result.1 (subst LeftUtf8 c.in-Some.is c.loop-left.invariant.text) c.split_once.ensures.back;
+  text = others_utf8 c.in-Some.rest.now c.cut_line.result.1 (subst LeftUtf8 c.in-Some.is c.loop-left.invariant.text) c.cut_line.ensures.back;
   onward = λ final done. c.loop-left.invariant.onward final
-      (more_left c.loop-left.self c.run_line.new.self final c.args.buffer c.loop-left.left c.in-Some.rest c.split_once.result.0.now c.split_once.result.1 c.in-Some.is c.split_once.ensures.front c.split_once.ensures.back
+      (more_left c.loop-left.self c.run_line.new.self final c.args.buffer c.loop-left.left c.in-Some.rest c.cut_line.result.0.now c.cut_line.result.1 c.in-Some.is c.cut_line.ensures.front c.cut_line.ensures.back
       (sym c.has_buffer.ensures ∙ c.if-not-has_buffer.false) c.loop-left.invariant.going (c.run_line.ensures.goes_on c.if-run_line.false) done);
   going = (c.run_line.ensures.goes_on c.if-run_line.false).goes;
 }
