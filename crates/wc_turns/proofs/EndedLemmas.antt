@@ -19,7 +19,7 @@ use Rattle.wc_turns.proofs.KeyedLemmas.{same-keys, at_key-push_same, at_key-push
 
 -- ---- the links
 
-ended_in : Option Kind → Bool
+abbrev ended_in : Option Kind → Bool
 ended_in None = false
 ended_in (Some kind) = kind.ended
 
