@@ -24,6 +24,8 @@ list_is_text l.Named = refl
 list_is_text l.Flags = refl
 list_is_text l.Nicks = refl
 list_is_text l.Diff = refl
+list_is_text l.Hotlist = refl
+list_is_text l.Completion = refl
 
 pub list_names_kinds : (list : KeyList) → kinds_of (list_text list) ≡ Some (kinds_in list)
 unfolding kinds_of key_kind named_kind
@@ -41,6 +43,8 @@ list_names_kinds l.Named = refl
 list_names_kinds l.Flags = refl
 list_names_kinds l.Nicks = refl
 list_names_kinds l.Diff = refl
+list_names_kinds l.Hotlist = refl
+list_names_kinds l.Completion = refl
 
 pub buffer_path_is_text : is_utf8 buffer_path ≡ true
 unfolding is_utf8 chars encode

@@ -27,8 +27,11 @@ key_row k.LastLine = (codes "last_line", kinds.Ptr, false)
 key_row k.LinesCount = (codes "lines_count", kinds.Int, false)
 key_row k.Data = (codes "data", kinds.Ptr, false)
 key_row k.Buffer = (codes "buffer", kinds.Ptr, false)
+key_row k.Id = (codes "id", kinds.Int, false)
 key_row k.Date = (codes "date", kinds.Tim, false)
+key_row k.DateUsec = (codes "date_usec", kinds.Int, false)
 key_row k.DatePrinted = (codes "date_printed", kinds.Tim, false)
+key_row k.DateUsecPrinted = (codes "date_usec_printed", kinds.Int, false)
 key_row k.Displayed = (codes "displayed", kinds.Chr, false)
 key_row k.NotifyLevel = (codes "notify_level", kinds.Chr, false)
 key_row k.Highlight = (codes "highlight", kinds.Chr, false)
@@ -42,6 +45,13 @@ key_row k.Level = (codes "level", kinds.Int, false)
 key_row k.Name = (codes "name", kinds.Str, true)
 key_row k.Color = (codes "color", kinds.Str, false)
 key_row k.PrefixColor = (codes "prefix_color", kinds.Str, false)
+key_row k.Priority = (codes "priority", kinds.Int, false)
+key_row k.Unread = (codes "count", kinds.Arr, false)
+key_row k.Context = (codes "context", kinds.Str, false)
+key_row k.BaseWord = (codes "base_word", kinds.Str, false)
+key_row k.PosStart = (codes "pos_start", kinds.Int, false)
+key_row k.PosEnd = (codes "pos_end", kinds.Int, false)
+key_row k.List = (codes "list", kinds.Arr, false)
 
 abbrev pub key_name : Key → List ℕ
 key_name key = (key_row key).0
@@ -74,8 +84,8 @@ abbrev pub keys_in : KeyList → List Key
 keys_in l.Buffer = buffer_keys ++ own_keys
 keys_in l.Lines = k.FirstLine ∷ k.LastLine ∷ k.LinesCount ∷ []
 keys_in l.Line = k.Data ∷ []
-keys_in l.LineData = k.Buffer ∷ k.Date ∷ k.DatePrinted ∷ k.Displayed ∷ k.NotifyLevel ∷ k.Highlight
-    ∷ k.TagsArray ∷ k.Prefix ∷ k.Message ∷ []
+keys_in l.LineData = k.Buffer ∷ k.Id ∷ k.Date ∷ k.DateUsec ∷ k.DatePrinted ∷ k.DateUsecPrinted
+    ∷ k.Displayed ∷ k.NotifyLevel ∷ k.Highlight ∷ k.TagsArray ∷ k.Prefix ∷ k.Message ∷ []
 keys_in l.Dump = k.Number ∷ k.FullName ∷ k.ShortName ∷ k.Hidden ∷ k.Title ∷ k.LocalVariables ∷ []
 keys_in l.Opened = buffer_keys
 keys_in l.Placed = k.Number ∷ k.FullName ∷ k.PrevBuffer ∷ k.NextBuffer ∷ []
@@ -86,6 +96,8 @@ keys_in l.Named = k.Number ∷ k.FullName ∷ []
 keys_in l.Flags = k.Buffer ∷ k.Displayed ∷ []
 keys_in l.Nicks = nick_keys
 keys_in l.Diff = k.Diff ∷ nick_keys
+keys_in l.Hotlist = k.Priority ∷ k.Buffer ∷ k.Unread ∷ []
+keys_in l.Completion = k.Context ∷ k.BaseWord ∷ k.PosStart ∷ k.PosEnd ∷ k.List ∷ []
 
 -- a name, a colon and the letters of a type
 abbrev pub key_text : Key → List ℕ

@@ -38,10 +38,16 @@ pub enum Key {
     Data,
     /// `buffer`, the buffer of a line.
     Buffer,
+    /// `id`, the number of a line in its buffer.
+    Id,
     /// `date`, the date of a line.
     Date,
+    /// `date_usec`, the microseconds of that date.
+    DateUsec,
     /// `date_printed`, when a line was printed.
     DatePrinted,
+    /// `date_usec_printed`, the microseconds of that date.
+    DateUsecPrinted,
     /// `displayed`, whether a line is shown.
     Displayed,
     /// `notify_level`, how much a line calls for notice.
@@ -68,6 +74,20 @@ pub enum Key {
     Color,
     /// `prefix_color`, the color of what is before a nick.
     PrefixColor,
+    /// `priority`, the greatest level of the lines of a buffer that were not read.
+    Priority,
+    /// `count`, how many lines of a buffer were not read, for each level.
+    Unread,
+    /// `context`, what a word that is to be completed is.
+    Context,
+    /// `base_word`, the word that is to be completed.
+    BaseWord,
+    /// `pos_start`, where that word begins.
+    PosStart,
+    /// `pos_end`, the place after that word.
+    PosEnd,
+    /// `list`, the words that complete it.
+    List,
 }
 
 /// How a key is written, the type of its values, and whether it is a key of our own of buffers.
@@ -127,8 +147,11 @@ impl Key {
             Key::LinesCount => row(b"lines_count", Kind::Int),
             Key::Data => row(b"data", Kind::Ptr),
             Key::Buffer => row(b"buffer", Kind::Ptr),
+            Key::Id => row(b"id", Kind::Int),
             Key::Date => row(b"date", Kind::Tim),
+            Key::DateUsec => row(b"date_usec", Kind::Int),
             Key::DatePrinted => row(b"date_printed", Kind::Tim),
+            Key::DateUsecPrinted => row(b"date_usec_printed", Kind::Int),
             Key::Displayed => row(b"displayed", Kind::Chr),
             Key::NotifyLevel => row(b"notify_level", Kind::Chr),
             Key::Highlight => row(b"highlight", Kind::Chr),
@@ -142,6 +165,13 @@ impl Key {
             Key::Name => own_row(b"name", Kind::Str),
             Key::Color => row(b"color", Kind::Str),
             Key::PrefixColor => row(b"prefix_color", Kind::Str),
+            Key::Priority => row(b"priority", Kind::Int),
+            Key::Unread => row(b"count", Kind::Arr),
+            Key::Context => row(b"context", Kind::Str),
+            Key::BaseWord => row(b"base_word", Kind::Str),
+            Key::PosStart => row(b"pos_start", Kind::Int),
+            Key::PosEnd => row(b"pos_end", Kind::Int),
+            Key::List => row(b"list", Kind::Arr),
         }
     }
 
@@ -224,8 +254,11 @@ const DUMP_TEXT: &[u8] =
 
 const LINE_DATA: &[Key] = &[
     Key::Buffer,
+    Key::Id,
     Key::Date,
+    Key::DateUsec,
     Key::DatePrinted,
+    Key::DateUsecPrinted,
     Key::Displayed,
     Key::NotifyLevel,
     Key::Highlight,
@@ -235,8 +268,8 @@ const LINE_DATA: &[Key] = &[
 ];
 
 const LINE_DATA_TEXT: &[u8] =
-    b"buffer:ptr,date:tim,date_printed:tim,displayed:chr,notify_level:chr,highlight:chr,\
-tags_array:arr,prefix:str,message:str";
+    b"buffer:ptr,id:int,date:tim,date_usec:int,date_printed:tim,date_usec_printed:int,displayed:chr,\
+notify_level:chr,highlight:chr,tags_array:arr,prefix:str,message:str";
 
 const NICKS: &[Key] = &[
     Key::Group,
@@ -264,6 +297,14 @@ const DIFF: &[Key] = &[
 
 const DIFF_TEXT: &[u8] =
     b"_diff:chr,group:chr,visible:chr,level:int,name:str,color:str,prefix:str,prefix_color:str";
+
+const COMPLETION: &[Key] = &[
+    Key::Context,
+    Key::BaseWord,
+    Key::PosStart,
+    Key::PosEnd,
+    Key::List,
+];
 
 /// Keys that are told together, in this order.
 #[derive(Clone, Copy, Debug, PartialEq, Eq)]
@@ -296,6 +337,10 @@ pub enum KeyList {
     Nicks,
     /// What is told of each change of such a list.
     Diff,
+    /// What is told of a buffer that has lines which were not read.
+    Hotlist,
+    /// What is told of a word that was completed.
+    Completion,
 }
 
 impl KeyList {
@@ -323,6 +368,8 @@ impl KeyList {
             KeyList::Flags => &[Key::Buffer, Key::Displayed],
             KeyList::Nicks => NICKS,
             KeyList::Diff => DIFF,
+            KeyList::Hotlist => &[Key::Priority, Key::Buffer, Key::Unread],
+            KeyList::Completion => COMPLETION,
         }
     }
 
@@ -346,6 +393,10 @@ impl KeyList {
             KeyList::Flags => b"buffer:ptr,displayed:chr",
             KeyList::Nicks => NICKS_TEXT,
             KeyList::Diff => DIFF_TEXT,
+            KeyList::Hotlist => b"priority:int,buffer:ptr,count:arr",
+            KeyList::Completion => {
+                b"context:str,base_word:str,pos_start:int,pos_end:int,list:arr"
+            }
         }
     }
 }

@@ -6,7 +6,7 @@ use Rattle.wc_lines.specs.Held.{RingView}
 use Rattle.wc_lines.specs.LineText.{HasUtf8Texts}
 
 abbrev pub held_of : Inside → RingView
-held_of a = record { limit = a.limit; lines = a.queue.items }
+held_of a = record { limit = a.limit; lines = a.queue.items; pushed = a.pushed }
 
 -- there is room for all lines, and each of them is text
 pub record IsRing (a : Inside) : Type 0 where

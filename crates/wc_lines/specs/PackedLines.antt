@@ -7,8 +7,11 @@ abbrev pub line_with : LineMarks → List (List ℕ) → List ℕ → List ℕ �
 line_with marks tags prefix message = record {
   handle = marks.handle;
   content = marks.content;
+  id = marks.id;
   date = marks.date;
+  usec = marks.usec;
   date_printed = marks.date_printed;
+  usec_printed = marks.usec_printed;
   displayed = marks.displayed;
   notify = marks.notify;
   highlight = marks.highlight;

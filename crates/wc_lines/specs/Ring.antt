@@ -1,5 +1,5 @@
 -- What the calls do to the lines.
-use Rattle.std.specs.Prelude.{ℕ, ◌-◌, Bool, ◌==◌, List, [], ◌∷◌, ◌++◌, length, drop, Option, Some}
+use Rattle.std.specs.Prelude.{ℕ, ◌+◌, ◌-◌, ◌^◌, min, Bool, ◌==◌, List, [], ◌∷◌, ◌++◌, length, drop, Option, Some}
 use Rattle.std.specs.Prelude.{None, if◌then◌else◌}
 use Rattle.std.specs.List.{list_any, position, slice_get}
 use Rattle.wc_text.specs.declared.names.Handle.{Handle}
@@ -16,9 +16,17 @@ newest [] = None
 newest (line ∷ []) = Some line
 newest (line ∷ next ∷ lines) = newest (next ∷ lines)
 
+-- one more, where the count is below the greatest that there is
+abbrev pub counted : ℕ → ℕ
+counted n = min (n + 1) (2 ^ 64 - 1)
+
 -- the line after the others, as far as the limit allows
 abbrev pub with_line : RingView → Line → RingView
-with_line held line = record held { lines = last_of held.limit (held.lines ++ line ∷ []) }
+with_line held line =
+    record held {
+      lines = last_of held.limit (held.lines ++ line ∷ []);
+      pushed = counted held.pushed;
+    }
 
 -- the oldest line, where as many as the limit are held
 abbrev pub pushed_out : RingView → Option Line

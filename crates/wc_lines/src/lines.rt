@@ -17,13 +17,15 @@ use wc_text::{Handle, NoMemory};
 /// Whether lines are displayed, by their content handles.
 pub type Flags = HashMap<u64, bool>;
 
-/// The newest lines of a buffer, up to a limit. Contracts see the limit and the list, from the
-/// oldest.
+/// The newest lines of a buffer, up to a limit. Contracts see the limit, the list, from the oldest,
+/// and how many lines were ever pushed.
 ///
 /// The room for all of them is taken at the making, so that no later call takes memory.
 #[derive(Drop)]
 pub struct Lines {
     limit: u32,
+    /// How many lines were ever pushed. It stops at the greatest number.
+    pushed: u64,
     queue: VecDeque<PackedLine>,
 }
 
@@ -47,7 +49,11 @@ impl Lines {
         ensures { IfOk result (λ lines. lines ≡ no_lines limit) }
     {
         let queue = VecDeque::with_capacity(alloc, limit as usize)?;
-        Ok(Lines { limit, queue })
+        Ok(Lines {
+            limit,
+            pushed: 0,
+            queue,
+        })
     }
 
     /// Puts a line after the others. Where as many as the limit are held, the oldest is first taken
@@ -58,6 +64,7 @@ impl Lines {
         ensures oldest { result ≡ pushed_out self.old }
         ensures text { IfSome result HasUtf8Texts }
     {
+        self.pushed = self.pushed.saturating_add(1);
         if self.queue.len() < self.limit as usize {
             self.queue.push_back_reserved(line);
             return None;
@@ -67,7 +74,7 @@ impl Lines {
         oldest
     }
 
-    /// Takes all lines out.
+    /// Takes all lines out. The count of those that were pushed stays.
     pub fn clear(&mut self)
         ensures { self.new ≡ without_lines self.old }
     {
@@ -82,6 +89,13 @@ impl Lines {
         ensures most { self.now.limit ≤ 4096 }
     {
         self.queue.len() as u32
+    }
+
+    /// How many lines were ever pushed. The count stops at the greatest number.
+    pub fn pushed(&self) -> u64
+        ensures { result ≡ self.now.pushed }
+    {
+        self.pushed
     }
 
     /// Whether no lines are held.

@@ -8,7 +8,7 @@ use std::marker::Model;
 use std::mem::size_of;
 use wc_text::{Handle, NoMemory, Text};
 
-/// What a line has beside its texts.
+/// What a line has beside its texts, ordered so that no room is lost between the fields.
 #[derive(Clone, Copy)]
 pub struct LineMarks {
     /// The line's own name.
@@ -19,6 +19,12 @@ pub struct LineMarks {
     pub date: u64,
     /// In seconds since 1970.
     pub date_printed: u64,
+    /// How many lines were printed in the buffer before it, modulo 2^31.
+    pub id: u32,
+    /// The microseconds of the date.
+    pub usec: u32,
+    /// The microseconds of the date of printing.
+    pub usec_printed: u32,
     /// No filter hides it.
     pub displayed: bool,
     /// The level of notification, from -1 for none to 3.
@@ -71,6 +77,13 @@ impl PackedLine {
         self.marks.content
     }
 
+    /// How many lines were printed in the buffer before it, modulo 2^31.
+    pub fn id(&self) -> u32
+        ensures { result ≡ self.now.id }
+    {
+        self.marks.id
+    }
+
     /// In seconds since 1970.
     pub fn date(&self) -> u64
         ensures { result ≡ self.now.date }
@@ -78,11 +91,25 @@ impl PackedLine {
         self.marks.date
     }
 
+    /// The microseconds of the date.
+    pub fn usec(&self) -> u32
+        ensures { result ≡ self.now.usec }
+    {
+        self.marks.usec
+    }
+
     /// In seconds since 1970.
     pub fn date_printed(&self) -> u64
         ensures { result ≡ self.now.date_printed }
     {
         self.marks.date_printed
+    }
+
+    /// The microseconds of the date of printing.
+    pub fn usec_printed(&self) -> u32
+        ensures { result ≡ self.now.usec_printed }
+    {
+        self.marks.usec_printed
     }
 
     /// Whether no filter hides it.
@@ -140,4 +167,4 @@ impl PackedLine {
 }
 
 // What a line takes in its ring, beside the block of its texts.
-const _: () = prove!(size_of::<PackedLine>() <= 72);
+const _: () = prove!(size_of::<PackedLine>() <= 80);

@@ -34,7 +34,7 @@ use Rattle.wc_model.specs.declared.change.What.TheVariants.{RemoveNick, ChangeGr
 use Rattle.wc_model.specs.declared.refused.ChangeRefused.{ChangeRefused}
 use Rattle.wc_model.specs.declared.refused.ChangeRefused.TheVariants.{Buffer, Nick, NoLine}
 use Rattle.wc_model.specs.declared.refused.ChangeRefused.TheVariants.{TooManyRows, Spent}
-use Rattle.wc_model.specs.World.{World, lines_at, rows_at, row_count, row_limit, last_handle}
+use Rattle.wc_model.specs.World.{World, lines_at, printed_at, rows_at, row_count, row_limit, last_handle}
 use Rattle.wc_model.specs.Order.{order}
 use Rattle.wc_model.specs.LineCuts.{line_of}
 
@@ -192,12 +192,14 @@ after_of world buffer (Add spec) =
     record world {
       groups = with_buffer (row_of world.next spec) spec.vars world.groups;
       lines = insert world.lines world.next [];
+      printed = insert world.printed world.next 0;
       nicks = insert world.nicks world.next [];
       next = world.next + 4;
     }
 after_of world buffer Close = record world {
   groups = without_buffer buffer world.groups;
   lines = remove world.lines buffer.0;
+  printed = remove world.printed buffer.0;
   nicks = remove world.nicks buffer.0;
 }
 after_of world buffer (MoveTo number) = with_groups world (move_group_to buffer number world.groups)
@@ -218,7 +220,10 @@ after_of world buffer (RemoveVar name) = with_groups world
     (with_entry buffer (without_var name) world.groups)
 after_of world buffer (Print line) =
     record (with_lines world buffer (last_of world.limit (lines_at world buffer.0
-    ++ line_of world.next line ∷ []))) { next = world.next + 2 }
+    ++ line_of (printed_at world buffer.0) world.next line ∷ []))) {
+      printed = insert world.printed buffer.0 (printed_at world buffer.0 + 1);
+      next = world.next + 2;
+    }
 after_of world buffer Clear = with_lines world buffer []
 after_of world buffer (Flips flips) = flip_all flips world
 after_of world buffer (AddGroup parent item) = with_row world buffer true parent item

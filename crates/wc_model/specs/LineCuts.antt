@@ -1,5 +1,5 @@
 -- A line as a buffer takes it: what is too long is cut.
-use Rattle.std.specs.Prelude.{ℕ, ◌+◌, List, [], ◌∷◌, length, nat_lt, ◌||◌, if◌then◌else◌}
+use Rattle.std.specs.Prelude.{ℕ, ◌+◌, ◌%◌, ◌^◌, min, List, [], ◌∷◌, length, nat_lt, ◌||◌, if◌then◌else◌}
 use Rattle.wc_lines.specs.declared.line.Line.{Line}
 use Rattle.wc_buffers.specs.Vars.{cut_to}
 use Rattle.wc_model.specs.declared.change.LineSpec.{LineSpec}
@@ -14,13 +14,24 @@ tags_from count size (tag ∷ tags) =
 abbrev pub cut_tags : List (List ℕ) → List (List ℕ)
 cut_tags tags = tags_from 0 0 tags
 
--- the line with this handle, and the next one for its content
-abbrev pub line_of : ℕ → LineSpec → Line
-line_of handle spec = record {
+-- microseconds of a second
+abbrev pub cut_usec : ℕ → ℕ
+cut_usec usec = min usec 999999
+
+-- the id of a line before which so many were printed in its buffer
+abbrev pub id_of : ℕ → ℕ
+id_of printed = printed % (2 ^ 31)
+
+-- the line with this handle, and the next one for its content, before which so many were printed
+abbrev pub line_of : ℕ → ℕ → LineSpec → Line
+line_of printed handle spec = record {
   handle = record { 0 = handle };
   content = record { 0 = handle + 1 };
+  id = id_of printed;
   date = spec.date;
+  usec = cut_usec spec.usec;
   date_printed = spec.date_printed;
+  usec_printed = cut_usec spec.usec_printed;
   displayed = spec.displayed;
   notify = spec.notify;
   highlight = spec.highlight;

@@ -12,6 +12,8 @@ pub record World : Type 0 where
   pub groups : EntryGroups
   -- the lines that each buffer holds, from the oldest, by the buffer's handle
   pub lines : FinMap nat_cmp (List Line)
+  -- how many lines were ever printed in each buffer, by the buffer's handle
+  pub printed : FinMap nat_cmp ℕ
   -- the rows of each buffer's nicklist in canonical order, by the buffer's handle
   pub nicks : FinMap nat_cmp (List Row)
   -- how many lines a buffer holds at most
@@ -22,6 +24,10 @@ pub record World : Type 0 where
 -- a buffer that is not there has no lines
 abbrev pub lines_at : World → ℕ → List Line
 lines_at world buffer = unwrap_or (get world.lines buffer) []
+
+-- and none was printed in it
+abbrev pub printed_at : World → ℕ → ℕ
+printed_at world buffer = unwrap_or (get world.printed buffer) 0
 
 -- and no rows
 abbrev pub rows_at : World → ℕ → List Row
@@ -55,6 +61,7 @@ abbrev pub first_world : ℕ → World
 first_world limit = record {
   groups = with_buffer core_row [] [];
   lines = insert empty 1 [];
+  printed = insert empty 1 0;
   nicks = insert empty 1 [];
   limit = limit;
   next = 5;

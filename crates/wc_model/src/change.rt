@@ -59,8 +59,12 @@ pub struct Flip {
 pub struct LineSpec {
     /// In seconds since 1970.
     pub date: u64,
+    /// The microseconds of the date. Those above 999,999 count as 999,999.
+    pub usec: u32,
     /// In seconds since 1970.
     pub date_printed: u64,
+    /// The microseconds of the date of printing. Those above 999,999 count as 999,999.
+    pub usec_printed: u32,
     pub displayed: bool,
     /// The level of notification, from -1 for none to 3.
     pub notify: i8,

@@ -7,8 +7,8 @@ use Rattle.wc_lines.specs.LineText.{HasUtf8Texts}
 use Rattle.wc_lines.proofs.RingLemmas.{none_at, some_at, written, written_text}
 use Rattle.wc_lines.proofs.lines.Lines.set_displayed.Goals as goal
 
-abbrev held_at : ℕ → List Line → RingView
-held_at limit lines = record { limit = limit; lines = lines }
+abbrev held_at : ℕ → ℕ → List Line → RingView
+held_at limit pushed lines = record { limit = limit; lines = lines; pushed = pushed }
 
 pub returns-in_default-clause-found : goal.returns-in_default-clause-found
 returns-in_default-clause-found c =
@@ -19,7 +19,7 @@ pub returns-in_default-clause-lines : goal.returns-in_default-clause-lines
 returns-in_default-clause-lines c =
     let lines = c.self.inside.queue.items in
     subst (λ held. held ≡ with_displayed c.args.content c.args.on held) c.self.view_is
-    (ap (held_at c.self.inside.limit) (sym ((none_at c.args.content c.args.on lines c.in_default.ensures).1)))
+    (ap (held_at c.self.inside.limit c.self.inside.pushed) (sym ((none_at c.args.content c.args.on lines c.in_default.ensures).1)))
 
 pub returns-clause-found : goal.returns-clause-found
 returns-clause-found c =
@@ -30,8 +30,8 @@ pub returns-clause-lines : goal.returns-clause-lines
 returns-clause-lines c =
     let lines = c.self.inside.queue.items in
     let changed = set lines c.in-Some.place c.set_displayed.new.self in
-    subst (λ held. held_at c.self.inside.limit changed ≡ with_displayed c.args.content c.args.on held) c.self.view_is
-    (ap (held_at c.self.inside.limit) (ap (set lines c.in-Some.place) c.set_displayed.ensures ∙ written c.args.content c.args.on lines c.in-Some.place c.index_mut-line.result.now c.in-Some.ensures c.index_mut-line.ensures.value))
+    subst (λ held. held_at c.self.inside.limit c.self.inside.pushed changed ≡ with_displayed c.args.content c.args.on held) c.self.view_is
+    (ap (held_at c.self.inside.limit c.self.inside.pushed) (ap (set lines c.in-Some.place) c.set_displayed.ensures ∙ written c.args.content c.args.on lines c.in-Some.place c.index_mut-line.result.now c.in-Some.ensures c.index_mut-line.ensures.value))
 
 pub invariant_of-self : goal.invariant_of-self
 invariant_of-self c =
