@@ -14,7 +14,7 @@ use Rattle.wc_relaycmd.specs.declared.request.Request.{Request}
 use Rattle.wc_session.specs.declared.client.Client.{Client}
 use Rattle.wc_session.specs.declared.outcome.Outcome.{Outcome}
 use Rattle.wc_session.specs.declared.outcome.Outcome.TheVariants as outcome
-use Rattle.wc_session.specs.Handshakes.{choice_in, asks_escapes}
+use Rattle.wc_session.specs.Handshakes.{choice_in, algorithm_for, asks_escapes}
 use Rattle.wc_session.specs.Heeded.{password_of, masks_of}
 use Rattle.wc_session.specs.Known.{Known}
 use Rattle.wc_session.specs.Logins.{pairs_let_in}
@@ -54,13 +54,13 @@ handshake_keeps masks client id pairs =
     (replies (shaken masks client pairs) (handshake_reply masks client id pairs))
     (shaken_link masks client pairs) (replies_keep_link client (shaken masks client pairs) (handshake_reply masks client id pairs) (shaken_link masks client pairs))
 
-init_keeps : (password : List ℕ) (client : Client) (pairs : List Pair) → Keeps client (init_answer password client pairs)
+init_keeps : (masks password : List ℕ) (client : Client) (pairs : List Pair) → Keeps client (init_answer masks password client pairs)
 unfolding init_answer
-init_keeps password client pairs =
+init_keeps masks password client pairs =
     let let_in : Client = record client { logged_in = true } in
-    keeps_if client client.logged_in (silent client) (cond (pairs_let_in pairs password client.nonce client.chosen) (silent let_in) (leaves client cause.LoginFailed))
+    keeps_if client client.logged_in (silent client) (cond (pairs_let_in pairs password client.nonce (algorithm_for masks client.chosen)) (silent let_in) (leaves client cause.LoginFailed))
     refl
-    (keeps_if client (pairs_let_in pairs password client.nonce client.chosen) (silent let_in) (leaves client cause.LoginFailed) refl refl)
+    (keeps_if client (pairs_let_in pairs password client.nonce (algorithm_for masks client.chosen)) (silent let_in) (leaves client cause.LoginFailed) refl refl)
 
 typed_keeps : (client : Client) (text : List ℕ) (buffer : Option Handle) → Keeps client (typed_into client text buffer)
 typed_keeps client text None = refl
@@ -80,7 +80,7 @@ desynchronized_link groups client buffers options = refl
 served_keeps : (world : World) (options : OptionsValue) (client : Client) (id : List ℕ) (command : Command) → Keeps client (served world options client id command)
 unfolding served
 served_keeps world options client id (ask.Handshake pairs) = handshake_keeps (masks_of options) client id pairs
-served_keeps world options client id (ask.Init pairs) = init_keeps (password_of options) client pairs
+served_keeps world options client id (ask.Init pairs) = init_keeps (masks_of options) (password_of options) client pairs
 served_keeps world options client id (ask.Hdata path keys) = replies_keep client _
 served_keeps world options client id (ask.Info name) = replies_keep client _
 served_keeps world options client id (ask.Infolist name argument) = replies_keep client _

@@ -62,9 +62,9 @@ departure_of (connection ∷ connections) = departure_by connection.session.clie
 -- ---- what is done to the client of a link
 
 -- the connection of a client that came
-abbrev pub new_connection : OptionsValue → LinkId → List ℕ → Connection
-new_connection options link nonce = record {
-  session = new_session options link nonce;
+abbrev pub new_connection : LinkId → List ℕ → Connection
+new_connection link nonce = record {
+  session = new_session link nonce;
   leaving = None;
 }
 

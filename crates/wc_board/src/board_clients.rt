@@ -18,15 +18,15 @@ use wc_text::{Arrival, Cause, LinkId, NoMemory};
 impl Board {
     /// Admits a client, which comes after the others. Where 64 clients are open, or 2^64 - 1 were
     /// ever admitted, the answer is NoMemory, so whoever may come to that has to look before.
-    pub fn admit(&mut self, arrival: Arrival, options: &Options) -> Result<(), NoMemory>
+    pub fn admit(&mut self, arrival: Arrival) -> Result<(), NoMemory>
         ensures admitted { OnOk result (self.new ≡ record self.old {
           connections =
               self.old.connections
-              ++ new_connection options.now arrival.link arrival.nonce ∷ [];
+              ++ new_connection arrival.link arrival.nonce ∷ [];
         }) }
         ensures refused { OnErr result (self.new ≡ self.old) }
     {
-        let session = Session::new(self.alloc, arrival.link, arrival.nonce, options)?;
+        let session = Session::new(self.alloc, arrival.link, arrival.nonce)?;
         self.clients.admit(self.alloc, session)
     }
 

@@ -592,7 +592,7 @@ used_core link old = record old { servers = used_up link old.servers }
 arrival-oracle : (state : State) (link : ℕ) (nonce : List ℕ) → (arrival_step state link nonce).state.oracle ≡ state.oracle
 arrival-oracle state link nonce = by (nat_lt (length state.clients) (client_limit state.options)) where
   came_to : Stepped
-  came_to = put_step (record state { clients = state.clients ++ new_client state.options (record { 0 = link }) nonce ∷ []; used = max state.used link })
+  came_to = put_step (record state { clients = state.clients ++ new_client (record { 0 = link }) nonce ∷ []; used = max state.used link })
 
   taken : Stepped
   taken = reach_step (record state { used = max state.used link }) (Closes link Surplus ∷ [])
@@ -629,10 +629,10 @@ came-starved told old new link nonce e rises =
     }
 
 pub came : (told : Beside) (old : CoreView) (link : LinkId) (nonce : List ℕ) → length (filter (λ connection. is_open connection) old.connections) < client_limit old.options
-    → AdmitsUnlessStarved told link.0 old (record (used_core link.0 old) { connections = old.connections ++ record { session = new_session old.options link nonce; leaving = None } ∷ [] }) None (arrival_step (state_of old told) link.0 nonce)
+    → AdmitsUnlessStarved told link.0 old (record (used_core link.0 old) { connections = old.connections ++ record { session = new_session link nonce; leaving = None } ∷ [] }) None (arrival_step (state_of old told) link.0 nonce)
 came told old link nonce few =
     let same = open-length old.connections in
-    let connection : Connection = record { session = new_session old.options link nonce; leaving = None } in
+    let connection : Connection = record { session = new_session link nonce; leaving = None } in
     let test : nat_lt (length (clients_of old.connections)) (client_limit old.options) ≡ true = grind (arith, nat_tests) in
     record {
       rises = omega arith;
@@ -642,7 +642,7 @@ came told old link nonce few =
       kept = λ j some. kept-push j old.connections connection some;
       cause = tt;
       comes = λ stay below were. rw test (record {
-        means = record { same = rw (clients-push old.connections (new_session old.options link nonce)) refl; told = were };
+        means = record { same = rw (clients-push old.connections (new_session link nonce)) refl; told = were };
         bytes = λ j. unsent-push j old.connections connection refl;
         leaving = λ j. leaving-push j old.connections connection refl;
         quits = refl;

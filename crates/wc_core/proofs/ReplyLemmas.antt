@@ -14,7 +14,7 @@ use Rattle.wc_relaycmd.specs.Utf8.{CommandUtf8, RequestIsUtf8}
 use Rattle.wc_objects.specs.declared.object.WireMessage.{WireMessage}
 use Rattle.wc_session.specs.declared.client.Client.{Client}
 use Rattle.wc_session.specs.declared.outcome.Outcome.TheVariants as outcome
-use Rattle.wc_session.specs.Handshakes.{choice_in, asks_escapes}
+use Rattle.wc_session.specs.Handshakes.{choice_in, algorithm_for, asks_escapes}
 use Rattle.wc_session.specs.Logins.{pairs_let_in}
 use Rattle.wc_session.specs.Names.{buffer_named}
 use Rattle.wc_session.specs.Sync.{synchronized, desynchronized}
@@ -54,13 +54,13 @@ handshake_fits masks client id pairs =
     (replies (shaken masks client pairs) (handshake_reply masks client id pairs))
     (record { link = shaken_link masks client pairs; text = tt }) (replies_fits client (shaken masks client pairs) (handshake_reply masks client id pairs) (shaken_link masks client pairs))
 
-init_fits : (password : List ℕ) (client : Client) (pairs : List Pair) → Fits client (init_answer password client pairs)
+init_fits : (masks password : List ℕ) (client : Client) (pairs : List Pair) → Fits client (init_answer masks password client pairs)
 unfolding init_answer
-init_fits password client pairs =
+init_fits masks password client pairs =
     let let_in : Client = record client { logged_in = true } in
-    if_fits client client.logged_in (silent client) (cond (pairs_let_in pairs password client.nonce client.chosen) (silent let_in) (leaves client cause.LoginFailed))
+    if_fits client client.logged_in (silent client) (cond (pairs_let_in pairs password client.nonce (algorithm_for masks client.chosen)) (silent let_in) (leaves client cause.LoginFailed))
     (silent_fits client client refl)
-    (if_fits client (pairs_let_in pairs password client.nonce client.chosen) (silent let_in) (leaves client cause.LoginFailed) (silent_fits client let_in refl) (record { link = refl; text = tt }))
+    (if_fits client (pairs_let_in pairs password client.nonce (algorithm_for masks client.chosen)) (silent let_in) (leaves client cause.LoginFailed) (silent_fits client let_in refl) (record { link = refl; text = tt }))
 
 typed_fits : (client : Client) (text : List ℕ) (buffer : Option Handle) → IsUtf8 text → Fits client (typed_into client text buffer)
 typed_fits client text None utf8 = silent_fits client client refl
@@ -80,7 +80,7 @@ desynchronized_link groups client buffers options = refl
 served_fits : (world : World) (options : OptionsValue) (client : Client) (id : List ℕ) (command : Command) → CommandUtf8 command → Fits client (served world options client id command)
 unfolding served CommandUtf8
 served_fits world options client id (ask.Handshake pairs) utf8 = handshake_fits (masks_of options) client id pairs
-served_fits world options client id (ask.Init pairs) utf8 = init_fits (password_of options) client pairs
+served_fits world options client id (ask.Init pairs) utf8 = init_fits (masks_of options) (password_of options) client pairs
 served_fits world options client id (ask.Hdata path keys) utf8 = replies_fits client client _ refl
 served_fits world options client id (ask.Info name) utf8 = replies_fits client client _ refl
 served_fits world options client id (ask.Infolist name argument) utf8 = replies_fits client client _ refl

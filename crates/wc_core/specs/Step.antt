@@ -203,7 +203,7 @@ abbrev pub arrival_step : State → ℕ → List ℕ → Stepped
 arrival_step state link nonce =
     if nat_lt (length state.clients) (client_limit state.options)
     then put_step (record state {
-      clients = state.clients ++ new_client state.options (record { 0 = link })
+      clients = state.clients ++ new_client (record { 0 = link })
           nonce ∷ [];
       used = max state.used link;
     })

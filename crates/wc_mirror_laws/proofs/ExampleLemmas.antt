@@ -83,7 +83,7 @@ nicks_read = refl
 -- ---- the client after each
 
 abbrev came : Client
-came = new_client only_password (record { 0 = 1 }) []
+came = new_client (record { 0 = 1 }) []
 
 abbrev known : Client
 known = record came { logged_in = true }

@@ -19,7 +19,7 @@ use Rattle.wc_relaycmd.specs.declared.request.Command.{Command}
 use Rattle.wc_relaycmd.specs.declared.request.Command.TheVariants as ask
 use Rattle.wc_session.specs.declared.client.Client.{Client}
 use Rattle.wc_session.specs.declared.outcome.Outcome.TheVariants as outcome
-use Rattle.wc_session.specs.Handshakes.{choice_in, asks_escapes, handshake_objects}
+use Rattle.wc_session.specs.Handshakes.{choice_in, algorithm_for, asks_escapes, handshake_objects}
 use Rattle.wc_session.specs.Heeded.{password_of, masks_of}
 use Rattle.wc_session.specs.Logins.{pairs_let_in}
 use Rattle.wc_session.specs.Names.{buffer_named}
@@ -102,12 +102,12 @@ handshake_one masks client id pairs known =
     (record { messages = messages; outcome = outcome.Leave cause.LoginFailed; client = shaken masks client pairs })
     (replies (shaken masks client pairs) messages) one (replies_one id (shaken masks client pairs) messages one)
 
-init_none : (password : List ℕ) (client : Client) (pairs : List Pair) → (init_answer password client pairs).messages ≡ []
+init_none : (masks password : List ℕ) (client : Client) (pairs : List Pair) → (init_answer masks password client pairs).messages ≡ []
 unfolding init_answer
-init_none password client pairs =
+init_none masks password client pairs =
     let let_in : Client = record client { logged_in = true } in
-    if_none client.logged_in (silent client) (cond (pairs_let_in pairs password client.nonce client.chosen) (silent let_in) (leaves client cause.LoginFailed))
-    refl (if_none (pairs_let_in pairs password client.nonce client.chosen) (silent let_in) (leaves client cause.LoginFailed) refl refl)
+    if_none client.logged_in (silent client) (cond (pairs_let_in pairs password client.nonce (algorithm_for masks client.chosen)) (silent let_in) (leaves client cause.LoginFailed))
+    refl (if_none (pairs_let_in pairs password client.nonce (algorithm_for masks client.chosen)) (silent let_in) (leaves client cause.LoginFailed) refl refl)
 
 input_none : (groups : EntryGroups) (client : Client) (buffer text : List ℕ) → (input_answer groups client buffer text).messages ≡ []
 input_none groups client buffer text = by (buffer_named groups buffer) where
@@ -118,7 +118,7 @@ input_none groups client buffer text = by (buffer_named groups buffer) where
 served_one : (world : World) (options : OptionsValue) (client : Client) (id : List ℕ) (command : Command) → length id ≤ 65536 → IsOneIf (has_reply command) (id_of_reply id command) (served world options client id command).messages
 unfolding served
 served_one world options client id (ask.Handshake pairs) known = handshake_one (masks_of options) client id pairs known
-served_one world options client id (ask.Init pairs) known = init_none (password_of options) client pairs
+served_one world options client id (ask.Init pairs) known = init_none (masks_of options) (password_of options) client pairs
 served_one world options client id (ask.Hdata path keys) known = answers_one client id _ known
 served_one world options client id (ask.Info name) known = answers_one client id _ known
 served_one world options client id (ask.Infolist name argument) known = answers_one client id _ known

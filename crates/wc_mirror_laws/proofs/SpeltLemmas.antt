@@ -38,7 +38,7 @@ use Rattle.wc_hdata.specs.Infos.{info_of}
 use Rattle.wc_hdata.proofs.SoundWalks.{sound_formed, walk_within}
 use Rattle.wc_session.specs.declared.client.Client.{Client}
 use Rattle.wc_session.specs.declared.outcome.Outcome.TheVariants as outcome
-use Rattle.wc_session.specs.Handshakes.{choice_in, asks_escapes, entry, handshake_table, handshake_objects}
+use Rattle.wc_session.specs.Handshakes.{choice_in, algorithm_for, asks_escapes, entry, handshake_table, handshake_objects}
 use Rattle.wc_session.specs.Logins.{pairs_let_in}
 use Rattle.wc_session.specs.Names.{buffer_named}
 use Rattle.wc_session.specs.Reply.{Answer, silent, leaves, replies, test_texts, test_numbers, test_objects, hdata_objects, path_objects, unless_refused, info_objects, infolist_objects, or_null, list_of_named, nicklist_objects, pong_objects, shaken, handshake_reply, handshake_answer, init_answer, typed_into, input_answer, is_open, served, reply_of}
@@ -239,12 +239,12 @@ handshake_spelt masks client id pairs text =
     (record { messages = messages; outcome = outcome.Leave cause.LoginFailed; client = shaken masks client pairs })
     (replies (shaken masks client pairs) messages) all (replies_spelt (shaken masks client pairs) messages all)
 
-init_spelt : (password : List ℕ) (client : Client) (pairs : List Pair) → AllSpelt (init_answer password client pairs).messages
+init_spelt : (masks password : List ℕ) (client : Client) (pairs : List Pair) → AllSpelt (init_answer masks password client pairs).messages
 unfolding init_answer
-init_spelt password client pairs =
+init_spelt masks password client pairs =
     let let_in : Client = record client { logged_in = true } in
-    if_spelt client.logged_in (silent client) (cond (pairs_let_in pairs password client.nonce client.chosen) (silent let_in) (leaves client cause.LoginFailed))
-    tt (if_spelt (pairs_let_in pairs password client.nonce client.chosen) (silent let_in) (leaves client cause.LoginFailed) tt tt)
+    if_spelt client.logged_in (silent client) (cond (pairs_let_in pairs password client.nonce (algorithm_for masks client.chosen)) (silent let_in) (leaves client cause.LoginFailed))
+    tt (if_spelt (pairs_let_in pairs password client.nonce (algorithm_for masks client.chosen)) (silent let_in) (leaves client cause.LoginFailed) tt tt)
 
 input_spelt : (groups : EntryGroups) (client : Client) (buffer text : List ℕ) → AllSpelt (input_answer groups client buffer text).messages
 input_spelt groups client buffer text = by (buffer_named groups buffer) where
@@ -262,7 +262,7 @@ pong_text = IsUtf8-from_is_utf8 (codes "_pong") pong_is_text
 served_spelt : (limit : ℕ) (world : World) (options : OptionsValue) (client : Client) (id : List ℕ) (command : Command) → IsWorldKept limit world → IsUtf8 id → CommandUtf8 command → AllSpelt (served world options client id command).messages
 unfolding served CommandUtf8
 served_spelt limit world options client id (ask.Handshake pairs) is text utf8 = handshake_spelt (masks_of options) client id pairs text
-served_spelt limit world options client id (ask.Init pairs) is text utf8 = init_spelt (password_of options) client pairs
+served_spelt limit world options client id (ask.Init pairs) is text utf8 = init_spelt (masks_of options) (password_of options) client pairs
 served_spelt limit world options client id (ask.Hdata path keys) is text utf8 = replies_spelt client _ (reply_spelt id _ text (hdata_good limit world path keys is))
 served_spelt limit world options client id (ask.Info name) is text utf8 = replies_spelt client _ (reply_spelt id _ text (info_good name utf8))
 served_spelt limit world options client id (ask.Infolist name argument) is text utf8 = replies_spelt client _ (reply_spelt id _ text (infolist_good limit world name argument is utf8.0))

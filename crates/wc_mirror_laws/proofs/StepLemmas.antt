@@ -134,7 +134,7 @@ kept-ticked limit link state moment kept = record { most = kept.most; world = ke
 -- a client that came, where there are not too many
 abbrev pub arrived : State → ℕ → List ℕ → Bool → Stepped
 arrived state k nonce b = cond b (put_step (record state {
-  clients = state.clients ++ new_client state.options (record { 0 = k }) nonce ∷ [];
+  clients = state.clients ++ new_client (record { 0 = k }) nonce ∷ [];
   used = max state.used k;
 })) (reach_step (record state { used = max state.used k }) (Closes k cause.Surplus ∷ []))
 
@@ -143,7 +143,7 @@ step_keeps limit link state (Start moment) kept = (Tells-start Lines limit link 
 step_keeps limit link state (Tick moment) kept = (Tells-pushes Lines limit link [] (ticked state moment) tt (kept-ticked limit link state moment kept)).kept
 step_keeps limit link state (Arrives k nonce) kept = by (nat_lt (length state.clients) (client_limit state.options)) where
   came : Client
-  came = new_client state.options (record { 0 = k }) nonce
+  came = new_client (record { 0 = k }) nonce
 
   by : (b : Bool) → IsStateKept limit link (arrived state k nonce b).state
   by true = record { most = kept.most; world = kept.world; told = kept.told; texts = kept.texts; first = first-push link came state.clients refl ∙ kept.first }
@@ -216,7 +216,7 @@ followed limit link state (Start moment) kept none after = sym (Tells-start Line
 followed limit link state (Tick moment) kept none after = after
 followed limit link state (Arrives k nonce) kept none after = by (nat_lt (length state.clients) (client_limit state.options)) after where
   came : Client
-  came = new_client state.options (record { 0 = k }) nonce
+  came = new_client (record { 0 = k }) nonce
 
   by : (b : Bool) → is_following (client_on link (arrived state k nonce b).state) ≡ true → is_following (client_on link state) ≡ true
   by true after = sym (following-push link came state.clients refl) ∙ after

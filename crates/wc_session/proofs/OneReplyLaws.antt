@@ -14,7 +14,7 @@ use Rattle.wc_objects.specs.declared.object.Object.{Object}
 use Rattle.wc_objects.specs.declared.object.WireMessage.{WireMessage}
 use Rattle.wc_session.specs.declared.client.Client.{Client}
 use Rattle.wc_session.specs.declared.outcome.Outcome.TheVariants as outcome
-use Rattle.wc_session.specs.Handshakes.{choice_in}
+use Rattle.wc_session.specs.Handshakes.{choice_in, algorithm_for}
 use Rattle.wc_session.specs.Logins.{pairs_let_in}
 use Rattle.wc_session.specs.Names.{buffer_named}
 use Rattle.wc_session.specs.OneReply.{AtMostOne, IsOneReply, id_of_reply}
@@ -51,12 +51,12 @@ handshake_one masks client id pairs =
     (record { messages = messages; outcome = outcome.Leave cause.LoginFailed; client = shaken masks client pairs })
     (replies (shaken masks client pairs) messages) (reply_one id _) (replies_one id (shaken masks client pairs) messages (reply_one id _))
 
-init_one : (id password : List ℕ) (client : Client) (pairs : List Pair) → AtMostOne id (init_answer password client pairs).messages
+init_one : (id masks password : List ℕ) (client : Client) (pairs : List Pair) → AtMostOne id (init_answer masks password client pairs).messages
 unfolding init_answer
-init_one id password client pairs =
+init_one id masks password client pairs =
     let let_in = record client { logged_in = true } in
-    if_answers_one id client.logged_in (silent client) (if pairs_let_in pairs password client.nonce client.chosen then silent let_in else leaves client cause.LoginFailed)
-    tt (if_answers_one id (pairs_let_in pairs password client.nonce client.chosen) (silent let_in) (leaves client cause.LoginFailed) tt tt)
+    if_answers_one id client.logged_in (silent client) (if pairs_let_in pairs password client.nonce (algorithm_for masks client.chosen) then silent let_in else leaves client cause.LoginFailed)
+    tt (if_answers_one id (pairs_let_in pairs password client.nonce (algorithm_for masks client.chosen)) (silent let_in) (leaves client cause.LoginFailed) tt tt)
 
 typed_one : (id : List ℕ) (client : Client) (text : List ℕ) (buffer : Option Handle) → AtMostOne id (typed_into client text buffer).messages
 typed_one id client text None = tt
@@ -68,7 +68,7 @@ input_one id groups client buffer text = typed_one id client text (buffer_named 
 served_one : (world : World) (options : OptionsValue) (client : Client) (id : List ℕ) (command : Command) → AtMostOne (id_of_reply id command) (served world options client id command).messages
 unfolding served
 served_one world options client id (ask.Handshake pairs) = handshake_one (masks_of options) client id pairs
-served_one world options client id (ask.Init pairs) = init_one id (password_of options) client pairs
+served_one world options client id (ask.Init pairs) = init_one id (masks_of options) (password_of options) client pairs
 served_one world options client id (ask.Hdata path keys) = replies_one id client _ (reply_one id _)
 served_one world options client id (ask.Info name) = replies_one id client _ (reply_one id _)
 served_one world options client id (ask.Infolist name argument) = replies_one id client _ (reply_one id _)

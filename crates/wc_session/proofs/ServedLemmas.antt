@@ -14,7 +14,7 @@ use Rattle.wc_objects.specs.declared.object.WireMessage.{WireMessage}
 use Rattle.wc_session.specs.declared.client.Client.{Client}
 use Rattle.wc_session.specs.declared.outcome.Outcome.{Outcome}
 use Rattle.wc_session.specs.declared.outcome.Outcome.TheVariants as outcome
-use Rattle.wc_session.specs.Handshakes.{choice_in}
+use Rattle.wc_session.specs.Handshakes.{choice_in, algorithm_for}
 use Rattle.wc_session.specs.Logins.{pairs_let_in}
 use Rattle.wc_session.specs.Names.{buffer_named}
 use Rattle.wc_session.specs.Reply.{Answer, silent, leaves, replies, typed_into, shaken, handshake_reply, handshake_answer, init_answer, input_answer, is_open, served, reply_of}
@@ -41,12 +41,12 @@ handshake_served masks client id pairs =
     (record { messages = handshake_reply masks client id pairs; outcome = outcome.Leave cause.LoginFailed; client = shaken masks client pairs })
     (replies (shaken masks client pairs) (handshake_reply masks client id pairs)) tt (replies_served (shaken masks client pairs) (handshake_reply masks client id pairs))
 
-init_served : (password : List ℕ) (client : Client) (pairs : List Pair) → IsServed (init_answer password client pairs).outcome
+init_served : (masks password : List ℕ) (client : Client) (pairs : List Pair) → IsServed (init_answer masks password client pairs).outcome
 unfolding init_answer
-init_served password client pairs =
+init_served masks password client pairs =
     let let_in = record client { logged_in = true } in
-    if_served client.logged_in (silent client) (if pairs_let_in pairs password client.nonce client.chosen then silent let_in else leaves client cause.LoginFailed)
-    tt (if_served (pairs_let_in pairs password client.nonce client.chosen) (silent let_in) (leaves client cause.LoginFailed) tt tt)
+    if_served client.logged_in (silent client) (if pairs_let_in pairs password client.nonce (algorithm_for masks client.chosen) then silent let_in else leaves client cause.LoginFailed)
+    tt (if_served (pairs_let_in pairs password client.nonce (algorithm_for masks client.chosen)) (silent let_in) (leaves client cause.LoginFailed) tt tt)
 
 typed_served : (client : Client) (text : List ℕ) (buffer : Option Handle) → IsServed (typed_into client text buffer).outcome
 typed_served client text None = tt
@@ -58,7 +58,7 @@ input_served groups client buffer text = typed_served client text (buffer_named 
 served_served : (world : World) (options : OptionsValue) (client : Client) (id : List ℕ) (command : Command) → IsServed (served world options client id command).outcome
 unfolding served
 served_served world options client id (ask.Handshake pairs) = handshake_served (masks_of options) client id pairs
-served_served world options client id (ask.Init pairs) = init_served (password_of options) client pairs
+served_served world options client id (ask.Init pairs) = init_served (masks_of options) (password_of options) client pairs
 served_served world options client id (ask.Hdata path keys) = replies_served client _
 served_served world options client id (ask.Info name) = replies_served client _
 served_served world options client id (ask.Infolist name argument) = replies_served client _

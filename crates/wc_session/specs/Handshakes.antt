@@ -15,6 +15,12 @@ use Rattle.wc_objects.specs.declared.object.Object.TheVariants as o
 unfoldable pub first_choice : List ℕ → Option Algorithm
 first_choice masks = choice_of (codes "plain") masks
 
+-- the algorithm by which a client has to prove that it knows the password: the one that its handshake
+-- settled, and without one the first choice by the masks as they are then
+abbrev pub algorithm_for : List ℕ → Option Algorithm → Option Algorithm
+algorithm_for masks None = first_choice masks
+algorithm_for masks (Some algorithm) = Some algorithm
+
 -- the strongest algorithm of the client's list that is allowed by these masks; a list that is not
 -- given is `plain`
 unfoldable pub choice_in : List ℕ → List Pair → Option Algorithm

@@ -1,10 +1,7 @@
 -- What contracts see of a session.
-use Rattle.std.specs.Prelude.{ℕ, List, [], false}
+use Rattle.std.specs.Prelude.{ℕ, List, [], None, false}
 use Rattle.wc_text.specs.declared.names.LinkId.{LinkId}
-use Rattle.wc_options.specs.Options.{OptionsValue}
 use Rattle.wc_session.specs.declared.client.Client.{Client}
-use Rattle.wc_session.specs.Handshakes.{first_choice}
-use Rattle.wc_session.specs.Heeded.{masks_of}
 use Rattle.wc_session.specs.Sync.{no_options}
 
 -- what is known of the client, and the bytes that are still to be sent to it
@@ -12,17 +9,17 @@ pub record Known : Type 0 where
   pub client : Client
   pub unsent : List ℕ
 
--- A client that has said nothing: without a handshake `plain` is chosen, where a mask allows it.
-abbrev pub new_client : OptionsValue → LinkId → List ℕ → Client
-new_client options link nonce = record {
+-- a client that has said nothing
+abbrev pub new_client : LinkId → List ℕ → Client
+new_client link nonce = record {
   link = link;
   nonce = nonce;
-  chosen = first_choice (masks_of options);
+  chosen = None;
   escaped = false;
   logged_in = false;
   everywhere = no_options;
   sets = [];
 }
 
-abbrev pub new_session : OptionsValue → LinkId → List ℕ → Known
-new_session options link nonce = record { client = new_client options link nonce; unsent = [] }
+abbrev pub new_session : LinkId → List ℕ → Known
+new_session link nonce = record { client = new_client link nonce; unsent = [] }

@@ -145,10 +145,10 @@ handshake_answer masks client id pairs =
     }
     else replies (shaken masks client pairs) (handshake_reply masks client id pairs)
 
-unfoldable pub init_answer : List ℕ → Client → List Pair → Answer
-init_answer password client pairs =
+unfoldable pub init_answer : List ℕ → List ℕ → Client → List Pair → Answer
+init_answer masks password client pairs =
     if client.logged_in then silent client else (
-    if pairs_let_in pairs password client.nonce client.chosen
+    if pairs_let_in pairs password client.nonce (algorithm_for masks client.chosen)
     then silent (record client { logged_in = true })
     else leaves client cause.LoginFailed)
 
@@ -175,7 +175,7 @@ is_open _ = false
 -- what a request gets that is served
 unfoldable pub served : World → OptionsValue → Client → List ℕ → Command → Answer
 served world options client id (ask.Handshake pairs) = handshake_answer (masks_of options) client id pairs
-served world options client id (ask.Init pairs) = init_answer (password_of options) client pairs
+served world options client id (ask.Init pairs) = init_answer (masks_of options) (password_of options) client pairs
 served world options client id (ask.Hdata path keys) =
     replies client (reply id (hdata_objects world path keys))
 served world options client id (ask.Info name) = replies client (reply id (info_objects name))

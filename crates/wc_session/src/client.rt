@@ -3,12 +3,9 @@ ghost use Rattle.wc_session.specs.Known.{new_client};
 ghost use Rattle.wc_session.specs.Sync.{follows, after_event};
 
 use crate::buffer_sets::BufferSets;
-use crate::handshake::first_choice;
-use crate::heeded::masks_of;
 use crate::sync_set::SyncSet;
 use std::alloc::Global;
 use wc_model::EventKind;
-use wc_options::Options;
 use wc_relaycmd::Algorithm;
 use wc_text::{Handle, LinkId};
 
@@ -18,8 +15,8 @@ pub struct Client {
     pub link: LinkId,
     /// The bytes that a salt has to begin with.
     pub nonce: [u8; 16],
-    /// How the client is to prove that it knows the password. None where there is no
-    /// way that both allow.
+    /// How the client is to prove that it knows the password, as its handshake settled. None where
+    /// it made none, or where there is no way that both allow; it is then dropped.
     pub chosen: Option<Algorithm>,
     /// Whether it writes its lines with `escape_commands`.
     pub escaped: bool,
@@ -31,15 +28,14 @@ pub struct Client {
 }
 
 impl Client {
-    /// A client that has said nothing: without a handshake `plain` is chosen, where these options
-    /// allow it.
-    pub fn new(alloc: Global, link: LinkId, nonce: [u8; 16], options: &Options) -> Client
-        ensures { result ≡ new_client options.now link nonce }
+    /// A client that has said nothing.
+    pub fn new(alloc: Global, link: LinkId, nonce: [u8; 16]) -> Client
+        ensures { result ≡ new_client link nonce }
     {
         Client {
             link,
             nonce,
-            chosen: first_choice(masks_of(options)),
+            chosen: None,
             escaped: false,
             logged_in: false,
             everywhere: SyncSet::none(),

@@ -252,7 +252,13 @@ fn serve_command(
 {
     match command {
         Command::Handshake(pairs) => shake(alloc, out, client, masks_of(options), id, &pairs),
-        Command::Init(pairs) => log_in(alloc, client, password_of(options), &pairs),
+        Command::Init(pairs) => log_in(
+            alloc,
+            client,
+            masks_of(options),
+            password_of(options),
+            &pairs,
+        ),
         Command::Hdata { path, keys } => {
             give_hdata(alloc, out, world, id, path.as_slice(), keys.as_slice())
         }

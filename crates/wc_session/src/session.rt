@@ -41,17 +41,11 @@ impl Model for Session {
 
 impl Session {
     /// A session whose client has said nothing, with the random bytes that its login is bound to.
-    /// Without a handshake it is to log in by `plain`, where these options allow that.
-    pub fn new(
-        alloc: Global,
-        link: LinkId,
-        nonce: [u8; 16],
-        options: &Options,
-    ) -> Result<Session, NoMemory>
-        ensures { IfOk result (λ session. session ≡ new_session options.now link nonce) }
+    pub fn new(alloc: Global, link: LinkId, nonce: [u8; 16]) -> Result<Session, NoMemory>
+        ensures { IfOk result (λ session. session ≡ new_session link nonce) }
     {
         Ok(Session {
-            client: Client::new(alloc, link, nonce, options),
+            client: Client::new(alloc, link, nonce),
             unsent: BytesMut::new(alloc),
         })
     }

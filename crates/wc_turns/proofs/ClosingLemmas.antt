@@ -20,7 +20,7 @@ use Rattle.wc_relaycmd.specs.declared.request.Request.{Request}
 use Rattle.wc_session.specs.declared.client.Client.{Client}
 use Rattle.wc_session.specs.declared.outcome.Outcome.{Outcome}
 use Rattle.wc_session.specs.declared.outcome.Outcome.TheVariants as outcome
-use Rattle.wc_session.specs.Handshakes.{choice_in}
+use Rattle.wc_session.specs.Handshakes.{choice_in, algorithm_for}
 use Rattle.wc_session.specs.Logins.{pairs_let_in}
 use Rattle.wc_session.specs.Names.{buffer_named}
 use Rattle.wc_options.specs.Options.{OptionsValue}
@@ -374,12 +374,12 @@ can-handshake masks client id pairs =
     (record { messages = handshake_reply masks client id pairs; outcome = outcome.Leave LoginFailed; client = shaken masks client pairs })
     (replies (shaken masks client pairs) (handshake_reply masks client id pairs)) (inl refl) (can-reply (shaken masks client pairs) (handshake_reply masks client id pairs))
 
-can-init : (password : List ℕ) (client : Client) (pairs : List Pair) → CanLeave (init_answer password client pairs).outcome
+can-init : (masks password : List ℕ) (client : Client) (pairs : List Pair) → CanLeave (init_answer masks password client pairs).outcome
 unfolding init_answer
-can-init password client pairs =
+can-init masks password client pairs =
     let let_in : Client = record client { logged_in = true } in
-    can-if client.logged_in (silent client) (cond (pairs_let_in pairs password client.nonce client.chosen) (silent let_in) (drops client LoginFailed)) tt
-    (can-if (pairs_let_in pairs password client.nonce client.chosen) (silent let_in) (drops client LoginFailed) tt (inl refl))
+    can-if client.logged_in (silent client) (cond (pairs_let_in pairs password client.nonce (algorithm_for masks client.chosen)) (silent let_in) (drops client LoginFailed)) tt
+    (can-if (pairs_let_in pairs password client.nonce (algorithm_for masks client.chosen)) (silent let_in) (drops client LoginFailed) tt (inl refl))
 
 can-type : (client : Client) (text : List ℕ) (buffer : Option Handle) → CanLeave (typed_into client text buffer).outcome
 can-type client text None = tt
@@ -388,7 +388,7 @@ can-type client text (Some buffer) = tt
 can-served : (world : World) (options : OptionsValue) (client : Client) (id : List ℕ) (command : Command) → CanLeave (served world options client id command).outcome
 unfolding served
 can-served world options client id (ask.Handshake pairs) = can-handshake (masks_of options) client id pairs
-can-served world options client id (ask.Init pairs) = can-init (password_of options) client pairs
+can-served world options client id (ask.Init pairs) = can-init (masks_of options) (password_of options) client pairs
 can-served world options client id (ask.Hdata path keys) = can-reply client _
 can-served world options client id (ask.Info name) = can-reply client _
 can-served world options client id (ask.Infolist name argument) = can-reply client _
