@@ -28,8 +28,8 @@ pub cut_tags_length : (tags : List (List ℕ)) → length (cut_tags tags) ≤ le
 cut_tags_length tags = shorter_from 0 0 tags
 
 -- a line that is cut has text where what was given is text
-pub line_text : (handle : ℕ) (spec : LineSpec) → IsLineText spec → HasUtf8Texts (line_of handle spec)
-line_text handle spec t = record {
+pub line_text : (printed handle : ℕ) (spec : LineSpec) → IsLineText spec → HasUtf8Texts (line_of printed handle spec)
+line_text printed handle spec t = record {
   tags = subst (λ tags. All IsUtf8 tags) (sym (cut_tags_front spec.tags)) (All-take IsUtf8 (length (cut_tags spec.tags)) spec.tags t.tags);
   prefix = cut_utf8 spec.prefix 128;
   message = cut_utf8 spec.message 1024;

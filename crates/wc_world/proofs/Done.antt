@@ -24,18 +24,18 @@ use Rattle.wc_model.specs.declared.change.LineSpec.{LineSpec}
 use Rattle.wc_model.specs.declared.notice.EventKind.{EventKind}
 use Rattle.wc_model.specs.declared.notice.EventKind.TheVariants as kinds
 use Rattle.wc_model.specs.declared.notice.Notice.{Notice}
-use Rattle.wc_model.specs.World.{World, lines_at}
+use Rattle.wc_model.specs.World.{World, lines_at, printed_at}
 use Rattle.wc_model.specs.Order.{order}
 use Rattle.wc_model.specs.LineCuts.{line_of}
 use Rattle.wc_model.specs.Apply.{refusal_of, after_of, with_groups, with_lines, of_buffers}
 use Rattle.wc_model.specs.Notices.{notice_of, notice_at, name_in, flips_in, flips_between, var_kind, Accepted}
-use Rattle.wc_world.specs.Kept.{held_at, held_in, lines_map, world_of, IsWorld, IsHeldBuffer, AreContentsApart, IsHeldChanged}
+use Rattle.wc_world.specs.Kept.{held_at, held_in, lines_map, printed_map, printed_under, world_of, IsWorld, IsHeldBuffer, AreContentsApart, IsHeldChanged}
 use Rattle.wc_world.specs.Nicks.{list_at, AreNicks}
 use Rattle.wc_world.specs.Told.{told_at}
 use Rattle.wc_world.proofs.GroupRows.{row_of-move, row_of-merge, row_of-unmerge, row_of-update, merged_apart}
 use Rattle.wc_world.proofs.FlipLemmas.{no_flips, no_flips_printed, nothing_flat, apart_more, apart_printed}
 use Rattle.wc_world.proofs.NickLemmas.{kept_nicks, kept_shown, same_lists}
-use Rattle.wc_world.proofs.HeldLemmas.{tied, get_lines, put_lines, changed_to, some_held}
+use Rattle.wc_world.proofs.HeldLemmas.{tied, lines_of, count_of, get_field, put_field, field_left, changed_to, some_held, one_more}
 
 -- ---- lines that stay as they were
 
@@ -43,7 +43,7 @@ abbrev pub Apart : World → Type 0
 Apart w = (h : ℕ) → AreContentsApart w.next (lines_at w h)
 
 pub are_apart : {S : Type 0} (gs : EntryGroups) (m : HashMap ℕ RingView S) (ns : FinMap nat_cmp (List Row)) (limit next : ℕ) → IsWorld gs m limit next → Apart (world_of gs m ns limit next)
-are_apart gs m ns limit next w h = subst (λ o. AreContentsApart next (unwrap_or o [])) (sym (get_lines m h)) (by (held_at m h) refl)
+are_apart gs m ns limit next w h = subst (λ o. AreContentsApart next (unwrap_or o [])) (sym (get_field lines_of m h)) (by (held_at m h) refl)
   where
     by : (o : Option RingView) → held_at m h ≡ o → AreContentsApart next (unwrap_or (option_map (λ (x : RingView). x.lines) o) [])
     by None e = tt
@@ -54,14 +54,14 @@ no_flips_between w v apart none = nothing_flat (λ h. flips_in (lines_at w h) (l
 
 -- what is held of a buffer, as the world has it
 pub held_shown : {S : Type 0} (gs : EntryGroups) (m : HashMap ℕ RingView S) (ns : FinMap nat_cmp (List Row)) (limit next : ℕ) → IsWorld gs m limit next → (h : ℕ) → held_at m h ≡ held_in (world_of gs m ns limit next) h
-held_shown gs m ns limit next w h = by (held_at m h) refl ∙ ap with_limit (sym (get_lines m h))
+held_shown gs m ns limit next w h = by (held_at m h) refl ∙ (λ i. whole (sym (get_field count_of m h) i) (sym (get_field lines_of m h) i))
   where
-    with_limit : Option (List Line) → Option RingView
-    with_limit o = option_map (λ lines. record { limit = limit; lines = lines }) o
+    whole : Option ℕ → Option (List Line) → Option RingView
+    whole count o = option_map (λ lines. record { limit = limit; lines = lines; pushed = unwrap_or count 0 }) o
 
-    by : (o : Option RingView) → held_at m h ≡ o → held_at m h ≡ with_limit (option_map (λ (x : RingView). x.lines) (held_at m h))
+    by : (o : Option RingView) → held_at m h ≡ o → held_at m h ≡ whole (option_map count_of (held_at m h)) (option_map lines_of (held_at m h))
     by None e = rw e refl
-    by (Some x) e = rw e (λ i. Some (record { limit = (w.fit h x e).limited i; lines = x.lines }))
+    by (Some x) e = rw e (λ i. Some (record { limit = (w.fit h x e).limited i; lines = x.lines; pushed = x.pushed }))
 
 -- ---- changes of the groups alone
 
@@ -157,14 +157,14 @@ removed_flips w u k apart e = no_flips_between w u apart each
         (λ t. rw t refl)
         (λ t. rw t (no_flips w.next (lines_at w q) (apart q))))
 
-pub lined : (w v b : World) (h : Handle) (what : What) (ms : List Line) (next : ℕ) (kind : EventKind) (name : List ℕ) (ls fs own : List Handle) (told : Notice)
-    → w ≡ v → Apart w → refusal_of w h what ≡ None → b ≡ record (with_lines w h ms) { next = next } → after_of w h what ≡ record (with_lines w h ms) { next = next }
+pub lined : (w v b : World) (h : Handle) (what : What) (ms : List Line) (counts : FinMap nat_cmp ℕ) (next : ℕ) (kind : EventKind) (name : List ℕ) (ls fs own : List Handle) (told : Notice)
+    → w ≡ v → Apart w → refusal_of w h what ≡ None → b ≡ record (with_lines w h ms) { printed = counts; next = next } → after_of w h what ≡ record (with_lines w h ms) { printed = counts; next = next }
     → ((b : World) → notice_of w b h what ≡ notice_at kind h b.groups own (flips_between w b))
     → flips_in (lines_at w h.0) ms ≡ []
     → name ≡ name_in (buffer_of h w.groups) → told ≡ told_at kind h w.groups name ls fs → ls ≡ own → fs ≡ []
     → Accepted v (record { buffer = h; what = what }) b told
-lined w v b h what ms next kind name ls fs own told is apart r c a n none e t l f =
-    let u : World = record (with_lines w h ms) { next = next } in
+lined w v b h what ms counts next kind name ls fs own told is apart r c a n none e t l f =
+    let u : World = record (with_lines w h ms) { printed = counts; next = next } in
     let flips = inserted_flips w u h.0 ms apart refl none in
     let read : told_at kind h w.groups name ls fs ≡ told_at kind h w.groups (name_in (buffer_of h w.groups)) own [] = λ i. told_at kind h w.groups (e i) (l i) (f i) in
     let meant : told_at kind h w.groups (name_in (buffer_of h w.groups)) own [] ≡ notice_at kind h w.groups own (flips_between w u) = ap (notice_at kind h w.groups own) (sym flips) in
@@ -180,31 +180,40 @@ module _ {S T : Type 0} (gs : EntryGroups) (m : HashMap ℕ RingView S) (n : Has
   there t = some_held (held_at m h.0) (w.stored h.0 ∙ t)
 
   lines_there : (x : RingView) → held_at m h.0 ≡ Some x → lines_at (world_of gs m ns limit next) h.0 ≡ x.lines
-  lines_there x e = ap (λ o. unwrap_or o []) (get_lines m h.0 ∙ ap (option_map (λ (x : RingView). x.lines)) e)
+  lines_there x e = ap (λ o. unwrap_or o []) (get_field lines_of m h.0 ∙ ap (option_map lines_of) e)
+
+  printed_there : (x : RingView) → held_at m h.0 ≡ Some x → printed_at (world_of gs m ns limit next) h.0 ≡ x.pushed
+  printed_there x e = ap (λ o. unwrap_or o 0) (get_field count_of m h.0 ∙ ap (option_map count_of) e)
 
   pub cleared_done : (v : World) (name : List ℕ) (ls fs : List Handle) (told : Notice) → world_of gs m ns limit next ≡ v → is_there h gs ≡ true → IsHeldChanged h.0 without_lines m n
       → name ≡ name_in (buffer_of h gs) → told ≡ told_at kinds.Cleared h gs name ls fs → ls ≡ [] → fs ≡ [] → Accepted v (record { buffer = h; what = Clear }) (world_of gs n ns limit next) told
   unfolding refusal_of after_of
   cleared_done v name ls fs told is t c e k l f =
       let x = there t in
-      let lines = put_lines m n h.0 (without_lines x.0) (changed_to m n h.0 without_lines x.0 x.1 c) in
-      lined (world_of gs m ns limit next) v (world_of gs n ns limit next) h Clear [] next kinds.Cleared name ls fs [] told is (are_apart gs m ns limit next w)
-      (rw t refl) (λ i. record { groups = gs; lines = lines i; nicks = ns; limit = limit; next = next }) refl (λ b. refl) refl e k l f
+      let lines = put_field lines_of m n h.0 (without_lines x.0) (changed_to m n h.0 without_lines x.0 x.1 c) in
+      let printed = field_left count_of m n without_lines (λ x. refl) h.0 c in
+      lined (world_of gs m ns limit next) v (world_of gs n ns limit next) h Clear [] (printed_map m) next kinds.Cleared name ls fs [] told is (are_apart gs m ns limit next w)
+      (rw t refl) (λ i. record { groups = gs; lines = lines i; printed = printed i; nicks = ns; limit = limit; next = next }) refl (λ b. refl) refl e k l f
 
-  pub printed_done : (v : World) (spec : LineSpec) (name : List ℕ) (ls fs : List Handle) (told : Notice) → world_of gs m ns limit next ≡ v → is_there h gs ≡ true → next < 2 ^ 62 → IsHeldChanged h.0 (λ x. with_line x (line_of next spec)) m n
+  pub printed_done : (v : World) (spec : LineSpec) (name : List ℕ) (ls fs : List Handle) (told : Notice) → world_of gs m ns limit next ≡ v → is_there h gs ≡ true → next < 2 ^ 62 → IsHeldChanged h.0 (λ x. with_line x (line_of (printed_under m h.0) next spec)) m n
       → name ≡ name_in (buffer_of h gs) → told ≡ told_at kinds.LineAdded h gs name ls fs → ls ≡ record { 0 = next } ∷ [] → fs ≡ [] → Accepted v (record { buffer = h; what = Print spec }) (world_of gs n ns limit (next + 2)) told
   unfolding refusal_of after_of
   printed_done v spec name ls fs told is t below c e k l f =
       let x = there t in
       let old = world_of gs m ns limit next in
-      let line = line_of next spec in
+      let line = line_of (printed_at old h.0) next spec in
+      let counts = insert (printed_map m) h.0 (printed_at old h.0 + 1) in
+      let d : IsHeldChanged h.0 (λ x. with_line x line) m n = subst (λ o. IsHeldChanged h.0 (λ x. with_line x (line_of (unwrap_or o 0) next spec)) m n) (sym (get_field count_of m h.0)) c in
       let fit = w.fit h.0 x.0 x.1 in
-      let lines = put_lines m n h.0 (with_line x.0 line) (changed_to m n h.0 (λ x. with_line x line) x.0 x.1 c) in
+      let to = changed_to m n h.0 (λ x. with_line x line) x.0 x.1 d in
+      let lines = put_field lines_of m n h.0 (with_line x.0 line) to in
+      let printed = put_field count_of m n h.0 (with_line x.0 line) to in
+      let more : (with_line x.0 line).pushed ≡ printed_at old h.0 + 1 = one_more x.0.pushed (let b = fit.counted in omega (arith, below)) ∙ ap (λ k. k + 1) (sym (printed_there x.0 x.1)) in
       let same : (with_line x.0 line).lines ≡ last_of limit (lines_at old h.0 ++ line ∷ []) = (λ i. last_of (fit.limited i) (sym (lines_there x.0 x.1) i ++ line ∷ [])) in
       let room : ltb (2 ^ 62 + 1) (next + 2) ≡ false = le-ltb (2 ^ 62 + 1) (next + 2) (omega arith) in
-      lined old v (world_of gs n ns limit (next + 2)) h (Print spec) (last_of limit (lines_at old h.0 ++ line ∷ [])) (next + 2) kinds.LineAdded name ls fs (record { 0 = next } ∷ []) told is (are_apart gs m ns limit next w)
+      lined old v (world_of gs n ns limit (next + 2)) h (Print spec) (last_of limit (lines_at old h.0 ++ line ∷ [])) counts (next + 2) kinds.LineAdded name ls fs (record { 0 = next } ∷ []) told is (are_apart gs m ns limit next w)
       (rw (t, room) refl)
-      (λ i. record { groups = gs; lines = (lines ∙ ap (insert (lines_map m) h.0) same) i; nicks = ns; limit = limit; next = next + 2 })
+      (λ i. record { groups = gs; lines = (lines ∙ ap (insert (lines_map m) h.0) same) i; printed = (printed ∙ ap (insert (printed_map m) h.0) more) i; nicks = ns; limit = limit; next = next + 2 })
       refl (λ b. refl)
       (no_flips_printed next limit line (lines_at old h.0) (are_apart gs m ns limit next w h.0) (omega arith))
       e k l f
@@ -247,17 +256,17 @@ kept_changed gs m n limit next next2 h f c keeps le most w = record {
     still q = by_bool (eqb h q) _ (λ t. rw t (mapped (held_at m q))) (λ t. rw t refl)
 
     grown : (x : RingView) → IsHeldBuffer limit next x → IsHeldBuffer limit next2 x
-    grown x i = record { limited = i.limited; apart = apart_more next next2 x.lines (omega arith) i.apart }
+    grown x i = record { limited = i.limited; apart = apart_more next next2 x.lines (omega arith) i.apart; counted = (let b = i.counted in omega arith) }
 
     here : (o : Option RingView) (y : RingView) → ((x : RingView) → o ≡ Some x → IsHeldBuffer limit next x) → option_map f o ≡ Some y → IsHeldBuffer limit next2 y
     here None y i e = absurd cc
     here (Some x) y i e = subst (IsHeldBuffer limit next2) (same_some (f x) y e) (keeps x (i x refl))
 
 pub kept_cleared : {S T : Type 0} (gs : EntryGroups) (m : HashMap ℕ RingView S) (n : HashMap ℕ RingView T) (limit next : ℕ) (h : ℕ) → IsHeldChanged h without_lines m n → IsWorld gs m limit next → IsWorld gs n limit next
-kept_cleared gs m n limit next h c w = kept_changed gs m n limit next next h without_lines c (λ x i. record { limited = i.limited; apart = tt }) (omega arith) w.ended w
+kept_cleared gs m n limit next h c w = kept_changed gs m n limit next next h without_lines c (λ x i. record { limited = i.limited; apart = tt; counted = i.counted }) (omega arith) w.ended w
 
 pub kept_printed : {S T : Type 0} (gs : EntryGroups) (m : HashMap ℕ RingView S) (n : HashMap ℕ RingView T) (limit next : ℕ) (h : ℕ) (line : Line) → line.content.0 ≡ next + 1 → next < 2 ^ 62 → IsHeldChanged h (λ x. with_line x line) m n → IsWorld gs m limit next → IsWorld gs n limit (next + 2)
-kept_printed gs m n limit next h line e below c w = kept_changed gs m n limit next (next + 2) h (λ x. with_line x line) c (λ x i. record { limited = i.limited; apart = apart_printed next (next + 2) x.limit line x.lines i.apart (omega arith) (omega arith) }) (omega arith) (omega arith) w
+kept_printed gs m n limit next h line e below c w = kept_changed gs m n limit next (next + 2) h (λ x. with_line x line) c (λ x i. record { limited = i.limited; apart = apart_printed next (next + 2) x.limit line x.lines i.apart (omega arith) (omega arith); counted = (let b = i.counted in let one = one_more x.pushed (omega arith) in omega arith) }) (omega arith) (omega arith) w
 
 pub kept_stored : {S T : Type 0} (gs hs : EntryGroups) (m : HashMap ℕ RingView S) (n : HashMap ℕ RingView T) (limit next : ℕ) → hs ≡ gs → ((q : ℕ) → held_at n q ≡ held_at m q) → IsWorld gs m limit next → IsWorld hs n limit next
 kept_stored gs hs m n limit next e s w = subst (λ g. IsWorld g n limit next) (sym e) (record {
@@ -274,7 +283,7 @@ kept_stored gs hs m n limit next e s w = subst (λ g. IsWorld g n limit next) (s
 pub kept_drawn : {S : Type 0} (gs : EntryGroups) (m : HashMap ℕ RingView S) (limit next next2 : ℕ) → next ≤ next2 → next2 ≤ 2 ^ 62 + 1 → IsWorld gs m limit next → IsWorld gs m limit next2
 kept_drawn gs m limit next next2 le most w = record {
   stored = w.stored;
-  fit = λ q x e. (let i = w.fit q x e in record { limited = i.limited; apart = apart_more next next2 x.lines (omega arith) i.apart });
+  fit = λ q x e. (let i = w.fit q x e in record { limited = i.limited; apart = apart_more next next2 x.lines (omega arith) i.apart; counted = (let b = i.counted in omega arith) });
   below = λ q t. (let b = w.below q t in omega arith);
   some = w.some;
   most = w.most;

@@ -12,8 +12,8 @@ use Rattle.wc_buffers.specs.Calls.{EntryGroups, handle_of, with_buffer}
 use Rattle.wc_buffers.specs.Groups.{has}
 use Rattle.wc_buffers.proofs.GroupLaws.{by_bool}
 use Rattle.wc_model.specs.World.{core_row}
-use Rattle.wc_world.specs.Kept.{held_at, lines_map, IsWorld, IsHeldBuffer}
-use Rattle.wc_world.proofs.HeldLemmas.{put_lines}
+use Rattle.wc_world.specs.Kept.{held_at, field_map, IsWorld, IsHeldBuffer}
+use Rattle.wc_world.proofs.HeldLemmas.{put_field}
 use Rattle.wc_world.proofs.Done.{same_some}
 
 or_false : (b : Bool) → cond b true false ≡ b
@@ -27,7 +27,7 @@ pub first_kept : {S : Type 0} (gs : EntryGroups) (n : HashMap ℕ RingView S) (l
 first_kept gs n limit g c some most = subst (λ g. IsWorld g n limit 5) (sym g) (record {
   stored = λ q. ap is_some (c q) ∙ still q ∙ sym (has_core q);
   fit = λ q x f. by_bool (eqb 1 q) _
-      (λ t. (let z : Some (no_lines limit) ≡ Some x = (let y = sym (c q) ∙ f in rw t at y) in subst (IsHeldBuffer limit 5) (same_some (no_lines limit) x z) (record { limited = refl; apart = tt })))
+      (λ t. (let z : Some (no_lines limit) ≡ Some x = (let y = sym (c q) ∙ f in rw t at y) in subst (IsHeldBuffer limit 5) (same_some (no_lines limit) x z) (record { limited = refl; apart = tt; counted = omega arith })))
       (λ t. absurd (let z : None ≡ Some x = (let y = sym (c q) ∙ f in rw t at y) in cc));
   below = λ q t. (let z = eqb-true 1 q (sym (has_core q) ∙ t) in omega arith);
   some = some;
@@ -42,10 +42,10 @@ first_kept gs n limit g c some most = subst (λ g. IsWorld g n limit 5) (sym g) 
 pub none_held : {S : Type 0} (m : HashMap ℕ RingView S) (q : ℕ) → m.entries ≡ [] → held_at m q ≡ None
 none_held m q none = ap (λ (es : List (ℕ × RingView)). lookup (eqb q) es) none
 
-pub first_lines : {S T : Type 0} (m : HashMap ℕ RingView S) (n : HashMap ℕ RingView T) (limit : ℕ) → m.entries ≡ [] → ((q : ℕ) → held_at n q ≡ cond (eqb 1 q) (Some (no_lines limit)) (held_at m q)) → lines_map n ≡ insert empty 1 []
-first_lines m n limit none c =
-    let nothing : lines_map m ≡ empty = ap (λ (es : List (ℕ × RingView)). from_entries (map (λ e. (e.0, e.1.lines)) es)) none in
-    put_lines m n 1 (no_lines limit) c ∙ ap (λ l. insert l 1 []) nothing
+pub first_field : {S T Y : Type 0} (f : RingView → Y) (m : HashMap ℕ RingView S) (n : HashMap ℕ RingView T) (limit : ℕ) → m.entries ≡ [] → ((q : ℕ) → held_at n q ≡ cond (eqb 1 q) (Some (no_lines limit)) (held_at m q)) → field_map f n ≡ insert empty 1 (f (no_lines limit))
+first_field f m n limit none c =
+    let nothing : field_map f m ≡ empty = ap (λ (es : List (ℕ × RingView)). from_entries (map (λ e. (e.0, f e.1)) es)) none in
+    put_field f m n 1 (no_lines limit) c ∙ ap (λ l. insert l 1 (f (no_lines limit))) nothing
 
 ascii : (text : List ℕ) → list_all (λ b. ltb b 128) text ≡ true → IsAscii text
 ascii [] e i = omega arith

@@ -33,13 +33,13 @@ use Rattle.wc_model.specs.Order.{order}
 use Rattle.wc_model.specs.Apply.{refusal, refusal_of, after_of, no_line, with_flips, flip_all, with_groups}
 use Rattle.wc_model.specs.Notices.{Outcome, Accepted, flips_in, flips_between, name_in, notice_at}
 use Rattle.wc_world.specs.Flips.{last_flag, differing_handles, all_differing, stored_lines, is_stored, lies_in}
-use Rattle.wc_world.specs.Kept.{held_at, lines_map, world_of, IsWorld, IsHeldBuffer}
+use Rattle.wc_world.specs.Kept.{held_at, lines_map, printed_map, world_of, IsWorld, IsHeldBuffer}
 use Rattle.wc_world.specs.Nicks.{AreNicks}
 use Rattle.wc_world.specs.Told.{told_at}
 use Rattle.wc_world.proofs.Done.{are_apart, kept_groups, same_some}
 use Rattle.wc_world.proofs.GroupRows.{row_of-update, some_row, in_rows, has-update}
 use Rattle.wc_world.proofs.NickLemmas.{kept_nicks}
-use Rattle.wc_world.proofs.HeldLemmas.{get_lines}
+use Rattle.wc_world.proofs.HeldLemmas.{lines_of, count_of, get_field, field_left_all}
 use Rattle.wc_world.proofs.LastFlags.{apart_flagged, flips_found, flipped_last}
 
 -- ---- refusals
@@ -85,7 +85,7 @@ abbrev pub refused_at : Option Handle → Option ChangeRefused
 refused_at o = option_map (λ (h : Handle). NoLine h) o
 
 stored_shown : {S : Type 0} (gs : EntryGroups) (m : HashMap ℕ RingView S) (nk : FinMap nat_cmp (List Row)) (limit next buffer : ℕ) → stored_lines m buffer ≡ lines_at (world_of gs m nk limit next) buffer
-stored_shown gs m nk limit next buffer = ap (λ o. unwrap_or o []) (sym (get_lines m buffer))
+stored_shown gs m nk limit next buffer = ap (λ o. unwrap_or o []) (sym (get_field lines_of m buffer))
 
 module _ {S : Type 0} (gs : EntryGroups) (m : HashMap ℕ RingView S) (nk : FinMap nat_cmp (List Row)) (limit next : ℕ) (v : World) (is : world_of gs m nk limit next ≡ v) (flips : List Flip) (ns : List ℕ) (ordered : ns ≡ order gs) where
   pub first_refused : (first : Option Handle) → first ≡ option_map (λ (flip : Flip). flip.content) (find (λ (flip : Flip). not (is_stored m ns flip.content.0)) flips) → no_line flips v ≡ refused_at first
@@ -160,17 +160,20 @@ module _ {S T : Type 0} (gs : EntryGroups) (m : HashMap ℕ RingView S) (n : Has
 
       each : (q : ℕ) → get (lines_map n) q ≡ get (flip_all flips (world_of gs m nk limit next)).lines q
       each q =
-          get_lines n q
+          get_field lines_of n q
           ∙ ap (option_map (λ (x : RingView). x.lines)) (set q)
           ∙ by q (held_at m q) refl
-          ∙ ap (option_map (with_flips flips)) (sym (get_lines m q))
+          ∙ ap (option_map (with_flips flips)) (sym (get_field lines_of m q))
           ∙ sym (get_flipped flips (world_of gs m nk limit next) q)
+
+  printed_left : printed_map n ≡ printed_map m
+  printed_left = field_left_all count_of m n (with_flags (last_flag flips)) (λ x. refl) set
 
   at_flagged : (hs : EntryGroups) (b : ℕ) → lines_at (world_of hs n nk limit next) b ≡ map (with_own_flag (last_flag flips)) (lines_at (world_of gs m nk limit next) b)
   at_flagged hs b =
-      ap (λ o. unwrap_or o []) (get_lines n b ∙ ap (option_map (λ (x : RingView). x.lines)) (set b))
+      ap (λ o. unwrap_or o []) (get_field lines_of n b ∙ ap (option_map (λ (x : RingView). x.lines)) (set b))
       ∙ by (held_at m b)
-      ∙ ap (λ o. map (with_own_flag (last_flag flips)) (unwrap_or o [])) (sym (get_lines m b))
+      ∙ ap (λ o. map (with_own_flag (last_flag flips)) (unwrap_or o [])) (sym (get_field lines_of m b))
     where
       by : (o : Option RingView) → unwrap_or (option_map (λ (x : RingView). x.lines) (option_map (with_flags (last_flag flips)) o)) [] ≡ map (with_own_flag (last_flag flips)) (unwrap_or (option_map (λ (x : RingView). x.lines) o) [])
       by None = refl
@@ -200,7 +203,7 @@ module _ {S T : Type 0} (gs : EntryGroups) (m : HashMap ℕ RingView S) (n : Has
 
       here : (o : Option RingView) (y : RingView) → ((x : RingView) → o ≡ Some x → IsHeldBuffer limit next x) → option_map (with_flags (last_flag flips)) o ≡ Some y → IsHeldBuffer limit next y
       here None y fit e = absurd cc
-      here (Some x) y fit e = subst (IsHeldBuffer limit next) (same_some (with_flags (last_flag flips) x) y e) (record { limited = (fit x refl).limited; apart = apart_flagged (last_flag flips) next x.lines (fit x refl).apart })
+      here (Some x) y fit e = subst (IsHeldBuffer limit next) (same_some (with_flags (last_flag flips) x) y e) (record { limited = (fit x refl).limited; apart = apart_flagged (last_flag flips) next x.lines (fit x refl).apart; counted = (fit x refl).counted })
 
   module _ (v : World) (h : Handle) (is : world_of gs m nk limit next ≡ v) (all_held : no_line flips v ≡ None) (ls fs : List Handle) (told : Notice) (l : ls ≡ []) (found : fs ≡ flat_map (λ buffer. differing_handles (last_flag flips) (lines_at v buffer)) (order v.groups)) where
     -- what was found is what differs between the two worlds
@@ -212,7 +215,7 @@ module _ {S T : Type 0} (gs : EntryGroups) (m : HashMap ℕ RingView S) (n : Has
     unfolding refusal_of after_of
     flips_done name e t =
         let old = world_of gs m nk limit next in
-        let after : world_of gs n nk limit next ≡ flip_all flips old = λ i. record { groups = gs; lines = lines_flipped i; nicks = nk; limit = limit; next = next } in
+        let after : world_of gs n nk limit next ≡ flip_all flips old = λ i. record { groups = gs; lines = lines_flipped i; printed = printed_left i; nicks = nk; limit = limit; next = next } in
         let read : told_at kinds.LineDataChanged (record { 0 = 0 }) gs name ls fs ≡ notice_at kinds.LineDataChanged (record { 0 = 0 }) gs [] (flips_between old (world_of gs n nk limit next)) = λ i. told_at kinds.LineDataChanged (record { 0 = 0 }) gs (e i) (l i) (flips_told gs refl i) in
         subst (λ v. Accepted v (record { buffer = h; what = Flips flips }) (world_of gs n nk limit next) told) is (record {
           accepted = ap (no_line flips) is ∙ all_held;
@@ -226,7 +229,7 @@ module _ {S T : Type 0} (gs : EntryGroups) (m : HashMap ℕ RingView S) (n : Has
     rename_done hs name r g t =
         let old = world_of gs m nk limit next in
         let named : name ≡ name_in (buffer_of h hs) = sym (ap (λ gs. name_in (buffer_of h gs)) g ∙ name_renamed h name gs (rename_good h name gs r).0) in
-        let after : world_of hs n nk limit next ≡ flip_all flips (with_groups old (with_entry h (with_full_name name) gs)) = λ i. record { groups = g i; lines = lines_flipped i; nicks = nk; limit = limit; next = next } in
+        let after : world_of hs n nk limit next ≡ flip_all flips (with_groups old (with_entry h (with_full_name name) gs)) = λ i. record { groups = g i; lines = lines_flipped i; printed = printed_left i; nicks = nk; limit = limit; next = next } in
         let read : told_at kinds.Renamed h hs name ls fs ≡ notice_at kinds.Renamed h hs [] (flips_between old (world_of hs n nk limit next)) = λ i. told_at kinds.Renamed h hs (named i) (l i) (flips_told hs (ap order g ∙ order_renamed h name gs) i) in
         subst (λ v. Accepted v (record { buffer = h; what = Rename name flips }) (world_of hs n nk limit next) told) is (record {
           accepted = rw r (ap (no_line flips) is ∙ all_held);

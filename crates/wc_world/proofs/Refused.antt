@@ -1,5 +1,5 @@
 -- From a refusal of the buffers to the clause on the world.
-use Rattle.std.proofs.Common.{◌≡◌, ◌≢◌, ℕ, ◌+◌, ◌≤◌, ◌^◌, Bool, true, false, cond, ltb, List, Option, Some, None, refl, ap, sym, subst, ◌∙◌, arith, lt-ltb}
+use Rattle.std.proofs.Common.{◌≡◌, ◌≢◌, ℕ, ◌+◌, ◌≤◌, ◌^◌, Bool, true, false, cond, ltb, List, Option, Some, None, option_map, refl, ap, sym, subst, ◌∙◌, arith, lt-ltb}
 use Rattle.std.specs.Prelude.{Result, Err, IsErrAnd}
 use Rattle.std.specs.FinMap.{FinMap}
 use Rattle.std.specs.HashMap.{HashMap}
@@ -23,8 +23,8 @@ use Rattle.wc_model.specs.World.{World, last_handle}
 use Rattle.wc_model.specs.Apply.{refusal, refusal_of, or_else, of_buffers, row_of as new_row}
 use Rattle.wc_model.specs.Notices.{Outcome}
 use Rattle.wc_model.specs.Refusals.{refused_by}
-use Rattle.wc_world.specs.Kept.{held_at, lines_map, world_of}
-use Rattle.wc_world.proofs.HeldLemmas.{same_lines}
+use Rattle.wc_world.specs.Kept.{held_at, lines_map, printed_map, world_of}
+use Rattle.wc_world.proofs.HeldLemmas.{lines_of, count_of, same_field}
 
 abbrev is_memory : BufferRefused → Bool
 is_memory NoMemory = true
@@ -64,8 +64,9 @@ same_groups gs hs m ns limit next v e is = ap (λ g. world_of g m ns limit next)
 
 pub same_stored : {S T : Type 0} (gs hs : EntryGroups) (m : HashMap ℕ RingView S) (n : HashMap ℕ RingView T) (ns ms : FinMap nat_cmp (List Row)) (limit next : ℕ) (v : World) → hs ≡ gs → ((q : ℕ) → held_at n q ≡ held_at m q) → ms ≡ ns → world_of gs m ns limit next ≡ v → world_of hs n ms limit next ≡ v
 same_stored gs hs m n ns ms limit next v e s k is =
-    let lines : lines_map n ≡ lines_map m = same_lines m n s in
-    let same : world_of hs n ms limit next ≡ world_of gs m ns limit next = λ i. record { groups = e i; lines = lines i; nicks = k i; limit = limit; next = next } in
+    let lines : lines_map n ≡ lines_map m = same_field lines_of m n (λ q. ap (option_map lines_of) (s q)) in
+    let printed : printed_map n ≡ printed_map m = same_field count_of m n (λ q. ap (option_map count_of) (s q)) in
+    let same : world_of hs n ms limit next ≡ world_of gs m ns limit next = λ i. record { groups = e i; lines = lines i; printed = printed i; nicks = k i; limit = limit; next = next } in
     same ∙ is
 
 pub out_of_memory : (v b : World) (c : Change) (r : Result Notice ChangeRefused) → r ≡ Err ChangeRefused.NoMemory → b ≡ v → Outcome v c b r

@@ -1,6 +1,6 @@
 -- The lines of the buffers as they are stored, and what always holds of them.
 use Rattle.std.specs.Prelude.{◌≡◌, ℕ, ◌+◌, ◌<◌, ◌≤◌, ◌^◌, true, false, nat_eq, Option, Some}
-use Rattle.std.specs.Prelude.{List, [], ◌∷◌, map, is_some, if◌then◌else◌, option_map}
+use Rattle.std.specs.Prelude.{List, [], ◌∷◌, map, is_some, if◌then◌else◌, option_map, unwrap_or}
 use Rattle.std.specs.FinMap.{FinMap, from_entries, get}
 use Rattle.std.specs.HashMap.{HashMap, get_by}
 use Rattle.std.specs.Ordering.{nat_cmp}
@@ -10,15 +10,27 @@ use Rattle.wc_lines.specs.Ring.{has_content}
 use Rattle.wc_nicklist.specs.declared.item.Row.{Row}
 use Rattle.wc_buffers.specs.Calls.{EntryGroups, handle_of}
 use Rattle.wc_buffers.specs.Groups.{has}
-use Rattle.wc_model.specs.World.{World}
+use Rattle.wc_model.specs.World.{World, printed_at}
 
 -- what is held under a handle
 abbrev pub held_at : {S : Type 0} → HashMap ℕ RingView S → ℕ → Option RingView
 held_at m h = get_by (nat_eq h) m
 
+-- what is seen of each buffer's lines, by its handle
+abbrev pub field_map : {S Y : Type 0} → (RingView → Y) → HashMap ℕ RingView S → FinMap nat_cmp Y
+field_map field m = from_entries (map (λ e. (e.0, field e.1)) m.entries)
+
 -- the lines of each buffer, by its handle
 abbrev pub lines_map : {S : Type 0} → HashMap ℕ RingView S → FinMap nat_cmp (List Line)
-lines_map m = from_entries (map (λ e. (e.0, e.1.lines)) m.entries)
+lines_map m = field_map (λ x. x.lines) m
+
+-- how many lines were ever printed in each buffer, by its handle
+abbrev pub printed_map : {S : Type 0} → HashMap ℕ RingView S → FinMap nat_cmp ℕ
+printed_map m = field_map (λ x. x.pushed) m
+
+-- how many lines were ever printed under a handle, where a buffer that is not there had none
+abbrev pub printed_under : {S : Type 0} → HashMap ℕ RingView S → ℕ → ℕ
+printed_under m h = unwrap_or (option_map (λ (x : RingView). x.pushed) (held_at m h)) 0
 
 -- what is held under one handle changed by f, and all else as it was
 abbrev pub IsHeldChanged : {S T : Type 0} → ℕ → (RingView → RingView) → HashMap ℕ RingView S →
@@ -35,6 +47,8 @@ AreContentsApart next (line ∷ lines) = (line.content.0 < next)
 pub record IsHeldBuffer (limit next : ℕ) (x : RingView) : Type 0 where
   pub limited : x.limit ≡ limit
   pub apart : AreContentsApart next x.lines
+  -- each line that was printed drew a handle
+  pub counted : x.pushed < next
 
 pub record IsWorld {S : Type 0} (groups : EntryGroups) (lines : HashMap ℕ RingView S)
     (limit next : ℕ) : Type 0 where
@@ -53,12 +67,16 @@ abbrev pub world_of : {S : Type 0} → EntryGroups → HashMap ℕ RingView S �
 world_of groups held nicks limit next = record {
   groups = groups;
   lines = lines_map held;
+  printed = printed_map held;
   nicks = nicks;
   limit = limit;
   next = next;
 }
 
--- the lines of a buffer, with how many it holds at most
+-- the lines of a buffer, with how many it holds at most and how many were ever printed in it
 abbrev pub held_in : World → ℕ → Option RingView
-held_in world h = option_map (λ lines. record { limit = world.limit; lines = lines })
-    (get world.lines h)
+held_in world h = option_map (λ lines. record {
+  limit = world.limit;
+  lines = lines;
+  pushed = printed_at world h;
+}) (get world.lines h)

@@ -1,7 +1,7 @@
 ghost use Rattle.std.specs.Prelude.{◌≡◌, ◌<◌, ◌+◌, ◌^◌, IfOk, length};
 ghost use Rattle.std.specs.Str.{IsUtf8};
 ghost use Rattle.wc_buffers.specs.Vars.{cut_to};
-ghost use Rattle.wc_model.specs.LineCuts.{cut_tags, line_of};
+ghost use Rattle.wc_model.specs.LineCuts.{cut_tags, cut_usec, id_of, line_of};
 ghost use Rattle.wc_world.specs.Texts.{IsLineText};
 
 use std::alloc::Global;
@@ -33,6 +33,12 @@ pub(crate) fn cut_text(alloc: Global, text: Text, limit: usize) -> Result<Text, 
     }
     Text::from_slice(alloc, text.as_slice().split_at(end).0)
 }
+
+/// The most microseconds of a date.
+const MOST_USEC: u32 = 999_999;
+
+/// Ids of lines are below this number.
+const IDS: u64 = 1 << 31;
 
 /// How many tags are before the first that does not fit.
 fn fitting(tags: &[Text]) -> usize
@@ -69,14 +75,17 @@ fn front(text: &Text, limit: usize) -> &[u8]
     text.split_at(cut(text, limit)).0
 }
 
-/// What the line with this handle has beside its texts.
-fn marks_of(handle: u64, spec: &LineSpec) -> LineMarks
+/// What the line with this handle has beside its texts, where so many were printed before it.
+fn marks_of(printed: u64, handle: u64, spec: &LineSpec) -> LineMarks
     requires { handle < 2 ^ 62 }
     ensures { result ≡ record {
       handle = record { 0 = handle };
       content = record { 0 = handle + 1 };
       date = spec.now.date;
       date_printed = spec.now.date_printed;
+      id = id_of printed;
+      usec = cut_usec spec.now.usec;
+      usec_printed = cut_usec spec.now.usec_printed;
       displayed = spec.now.displayed;
       notify = spec.now.notify;
       highlight = spec.now.highlight;
@@ -87,19 +96,28 @@ fn marks_of(handle: u64, spec: &LineSpec) -> LineMarks
         content: Handle(handle + 1),
         date: spec.date,
         date_printed: spec.date_printed,
+        id: (printed % IDS) as u32,
+        usec: spec.usec.min(MOST_USEC),
+        usec_printed: spec.usec_printed.min(MOST_USEC),
         displayed: spec.displayed,
         notify: spec.notify,
         highlight: spec.highlight,
     }
 }
 
-/// The line with this handle, and the next one for its content. What is too long is cut.
-pub(crate) fn line_of(alloc: Global, handle: u64, spec: LineSpec) -> Result<PackedLine, NoMemory>
+/// The line with this handle, and the next one for its content, where so many were printed before
+/// it in its buffer. What is too long is cut.
+pub(crate) fn line_of(
+    alloc: Global,
+    printed: u64,
+    handle: u64,
+    spec: LineSpec,
+) -> Result<PackedLine, NoMemory>
     requires room { handle < 2 ^ 62 }
     requires text { IsLineText spec }
-    ensures { IfOk result (λ line. line ≡ line_of handle spec) }
+    ensures { IfOk result (λ line. line ≡ line_of printed handle spec) }
 {
-    let marks = marks_of(handle, &spec);
+    let marks = marks_of(printed, handle, &spec);
     let tags = fitting_tags(spec.tags.as_slice());
     let prefix = front(&spec.prefix, PREFIX_LIMIT);
     let message = front(&spec.message, MESSAGE_LIMIT);

@@ -2,7 +2,7 @@ ghost use Rattle.std.specs.Prelude.{◌≡◌, ◌<◌, IsSome, OnOk, Some, None
 ghost use Rattle.std.specs.HashMap.{spare};
 ghost use Rattle.wc_lines.specs.LineText.{HasUtf8Texts};
 ghost use Rattle.wc_lines.specs.Ring.{with_line, without_lines};
-ghost use Rattle.wc_world.specs.Kept.{held_at, IsHeldChanged};
+ghost use Rattle.wc_world.specs.Kept.{held_at, printed_under, IsHeldChanged};
 
 use std::collections::HashMap;
 use wc_lines::{Lines, PackedLine};
@@ -35,6 +35,16 @@ pub(crate) fn remove(held: &mut Held, h: Handle)
     ensures { (q : ℕ) → held_at held.new q ≡ (if nat_eq h.0 q then None else held_at held.old q) }
 {
     let _ = held.remove(&h.0);
+}
+
+/// How many lines were ever put to a buffer. A buffer that is not there had none.
+pub(crate) fn printed(held: &Held, h: Handle) -> u64
+    ensures { result ≡ printed_under held.now h.0 }
+{
+    match held.get(&h.0) {
+        Some(lines) => lines.pushed(),
+        None => 0,
+    }
 }
 
 /// Puts a line after those of a buffer that is there.

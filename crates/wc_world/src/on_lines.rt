@@ -34,7 +34,8 @@ impl World {
             drop(spec);
             return Err(ChangeRefused::NoMemory);
         };
-        let line = line_of(alloc, self.next, spec)?;
+        let printed = held::printed(&self.held, h);
+        let line = line_of(alloc, printed, self.next, spec)?;
         let Ok(lines) = one(alloc, Handle(self.next)) else {
             drop(line);
             return Err(ChangeRefused::NoMemory);

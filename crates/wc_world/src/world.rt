@@ -4,7 +4,7 @@ ghost use Rattle.std.specs.FinMap.{empty, get, insert};
 ghost use Rattle.wc_buffers.specs.Calls.{is_there, with_buffer};
 ghost use Rattle.wc_lines.specs.Held.{no_lines};
 ghost use Rattle.wc_nicklist.specs.Rows.{IsRows, Nicks as NicksValue};
-ghost use Rattle.wc_world.specs.Kept.{held_at, held_in, lines_map};
+ghost use Rattle.wc_world.specs.Kept.{held_at, held_in, lines_map, printed_map};
 ghost use Rattle.wc_world.specs.Nicks.{rows_map, AreCut, AreNicks};
 ghost use Rattle.wc_model.specs.World.{core_row, first_world, rows_at, root_at};
 
@@ -97,6 +97,7 @@ fn core_lines(alloc: Global, limit: u32) -> Result<HeldLines, NoMemory>
     ensures each { IfOk result (λ held. (q : ℕ) → held_at held q
         ≡ (if nat_eq 1 q then Some (no_lines limit) else None)) }
     ensures all { IfOk result (λ held. lines_map held ≡ insert empty 1 []) }
+    ensures printed { IfOk result (λ held. printed_map held ≡ insert empty 1 0) }
 {
     let lines = Lines::new(alloc, limit)?;
     let mut held = HashMap::new(alloc);

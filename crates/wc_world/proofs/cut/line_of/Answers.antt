@@ -7,7 +7,7 @@ use Rattle.wc_world.proofs.cut.line_of.Goals as goal
 
 pub returns : goal.returns
 returns c =
-    let whole : Line = line_of c.args.handle c.args.spec in
+    let whole : Line = line_of c.args.printed c.args.handle c.args.spec in
     let marks = c.marks_of-marks.ensures in
     let tags = c.fitting_tags-tags.ensures ∙ ap cut_tags c.as_slice.ensures in
     let prefix = c.front-prefix.ensures in
