@@ -4,7 +4,6 @@ use Rattle.std.specs.Prelude.{None}
 use Rattle.wc_text.specs.declared.names.LinkId.{LinkId}
 use Rattle.wc_text.specs.declared.names.Cause.{Cause}
 use Rattle.wc_outside.specs.Keyed.{at_key, put_at}
-use Rattle.wc_options.specs.Options.{OptionsValue}
 use Rattle.wc_session.specs.declared.client.Client.{Client}
 use Rattle.wc_session.specs.Known.{Known, new_session}
 use Rattle.wc_board.specs.declared.connection.Connection.{Connection}

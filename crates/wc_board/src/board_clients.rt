@@ -11,7 +11,6 @@ ghost use Rattle.wc_board.specs.Hooked.{IsHooked};
 use crate::board::Board;
 use crate::connection::{Connection, Departure, connection_place, first_departure, open_count};
 use wc_hooks::HookTable;
-use wc_options::Options;
 use wc_session::Session;
 use wc_text::{Arrival, Cause, LinkId, NoMemory};
 

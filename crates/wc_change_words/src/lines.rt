@@ -15,6 +15,8 @@ use wc_text::{Items, Text};
 const LINE_OPTIONS: &[&str] = &[
     "date=",
     "printed=",
+    "usec=",
+    "usec_printed=",
     "hidden",
     "notify=",
     "highlight",
@@ -29,7 +31,9 @@ const DATE: u64 = 1_700_000_000;
 #[derive(Clone, Copy)]
 struct Marks {
     date: u64,
+    usec: u32,
     date_printed: u64,
+    usec_printed: u32,
     notify: i8,
 }
 
@@ -40,13 +44,25 @@ fn notify(options: &[&str]) -> Result<i8, Wrong> {
     }
 }
 
+/// Microseconds, which may be more than a second has.
+fn usec_option(options: &[&str], name: &str) -> Result<u32, Wrong> {
+    match u32::try_from(number_option(options, name, 0)?) {
+        Ok(usec) => Ok(usec),
+        Err(_) => Err(Wrong::NoNumber),
+    }
+}
+
 fn marks_of(options: &[&str]) -> Result<Marks, Wrong> {
     let date = number_option(options, "date=", DATE)?;
     let date_printed = number_option(options, "printed=", date)?;
+    let usec = usec_option(options, "usec=")?;
+    let usec_printed = usec_option(options, "usec_printed=")?;
     let notify = notify(options)?;
     Ok(Marks {
         date,
+        usec,
         date_printed,
+        usec_printed,
         notify,
     })
 }
@@ -79,7 +95,9 @@ fn line(alloc: Global, message: &str, options: &[&str]) -> Result<LineSpec, Wron
     let message = text(alloc, message)?;
     Ok(LineSpec {
         date: marks.date,
+        usec: marks.usec,
         date_printed: marks.date_printed,
+        usec_printed: marks.usec_printed,
         displayed: !is_set(options, "hidden"),
         notify: marks.notify,
         highlight: is_set(options, "highlight"),

@@ -300,10 +300,10 @@ push-counted old board new before is e same rises =
     subst P (sym e) (push-by old board (count_since old board.connections before) is (counted-as old board.connections before same (more old board new before e rises)))
 
 pub came-by : (told : Beside) (old : CoreView) (board : BoardView) (servers : ServersView) (link : LinkId) (nonce : List ℕ) → length (filter (λ connection. is_open connection) old.connections) < client_limit old.options → servers ≡ used_up link.0 old.servers
-    → board ≡ record (board_of old) { connections = old.connections ++ new_connection old.options link nonce ∷ [] } → AdmitsUnlessStarved told link.0 old (with_board (record old { servers = servers }) board old.starved) None (arrival_step (state_of old told) link.0 nonce)
+    → board ≡ record (board_of old) { connections = old.connections ++ new_connection link nonce ∷ [] } → AdmitsUnlessStarved told link.0 old (with_board (record old { servers = servers }) board old.starved) None (arrival_step (state_of old told) link.0 nonce)
 came-by told old board servers link nonce few used e =
     let P : BoardView → Type 0 = λ b. AdmitsUnlessStarved told link.0 old (with_board (record old { servers = servers }) b old.starved) None (arrival_step (state_of old told) link.0 nonce) in
-    let came_to = record (board_of old) { connections = old.connections ++ new_connection old.options link nonce ∷ [] } in
+    let came_to = record (board_of old) { connections = old.connections ++ new_connection link nonce ∷ [] } in
     let Q : ServersView → Type 0 = λ servers. AdmitsUnlessStarved told link.0 old (with_board (record old { servers = servers }) came_to old.starved) None (arrival_step (state_of old told) link.0 nonce) in
     subst P (sym e) (subst Q (sym used) (came told old link nonce few))
 
@@ -320,9 +320,9 @@ changed-some old board new before change notice made served e same rises =
     changes-some old new board.world board.pending board.connections (count_since old board.connections before) change notice made served e c.0 c.1
 
 -- nobody is dropped as a client comes
-pub came-counts : (old : CoreView) (board : BoardView) (servers : ServersView) (link : LinkId) (nonce : List ℕ) → board ≡ record (board_of old) { connections = old.connections ++ new_connection old.options link nonce ∷ [] } → Counts 0 old (with_board (record old { servers = servers }) board old.starved)
+pub came-counts : (old : CoreView) (board : BoardView) (servers : ServersView) (link : LinkId) (nonce : List ℕ) → board ≡ record (board_of old) { connections = old.connections ++ new_connection link nonce ∷ [] } → Counts 0 old (with_board (record old { servers = servers }) board old.starved)
 came-counts old board servers link nonce e =
-    counts-none old (with_board (record old { servers = servers }) board old.starved) (ap (λ (b : BoardView). starving_number b.connections) e ∙ starving_more old.connections (new_connection old.options link nonce) refl) refl refl
+    counts-none old (with_board (record old { servers = servers }) board old.starved) (ap (λ (b : BoardView). starving_number b.connections) e ∙ starving_more old.connections (new_connection link nonce) refl) refl refl
 
 -- what holds where a call did not fail
 pub on_ok : {A E : Type 0} (r : Result A E) (P : Type 0) → is_err r ≡ false → OnOk r P → P

@@ -1,5 +1,5 @@
 -- What a text that is typed into a buffer comes to in a world.
-use Rattle.std.specs.Prelude.{ℕ, ◌/◌, ◌++◌, ◌==◌, zero, suc, true, false, List, [], ◌∷◌}
+use Rattle.std.specs.Prelude.{ℕ, ◌*◌, ◌/◌, ◌%◌, ◌++◌, ◌==◌, zero, suc, true, false, List, [], ◌∷◌}
 use Rattle.std.specs.Prelude.{codes, if◌then◌else◌, Option, Some, None}
 use Rattle.std.specs.List.{slice_get, before_first}
 use Rattle.std.specs.Str.Parse.{digits_value}
@@ -80,11 +80,17 @@ switched (Some buffer) = Stays
 abbrev pub change_of : Handle → What → Change
 change_of buffer w = record { buffer = buffer; what = w }
 
--- a line that is printed at this moment, which it has in seconds
+-- a moment in milliseconds as the microseconds of its second
+abbrev pub usec_of : ℕ → ℕ
+usec_of moment = moment % 1000 * 1000
+
+-- a line that is printed at this moment, which it has in seconds and microseconds
 abbrev pub line_spec : ℕ → List (List ℕ) → List ℕ → List ℕ → LineSpec
 line_spec moment tags prefix message = record {
   date = moment / 1000;
+  usec = usec_of moment;
   date_printed = moment / 1000;
+  usec_printed = usec_of moment;
   displayed = true;
   notify = notify_of tags false;
   highlight = highlight_of tags false;

@@ -30,7 +30,7 @@ use Rattle.wc_servers.specs.Seats.{ServerSeat, server_link, server_named, ended}
 use Rattle.wc_servers.specs.Texts.{is_change_text}
 use Rattle.wc_core.specs.Changing.{no_step, put_step, reach_step, then_does, change_step}
 use Rattle.wc_core.specs.Changing.{change_step_if, refusal_step}
-use Rattle.wc_core.specs.Resolved.{change_of, null, refusal_text}
+use Rattle.wc_core.specs.Resolved.{change_of, null, refusal_text, usec_of}
 use Rattle.wc_core.specs.State.{State, Serves, Quits, Stage, Stepped}
 
 -- something is to go out for a server
@@ -39,9 +39,14 @@ out_step state out = reach_step state (Serves out ∷ [])
 
 -- ---- acts, one by one
 
--- lines have the moment at which they are printed, in seconds
+-- lines have the moment at which they are printed, in seconds and microseconds
 abbrev pub dated_line : ℕ → LineSpec → LineSpec
-dated_line moment line = record line { date = moment / 1000; date_printed = moment / 1000 }
+dated_line moment line = record line {
+  date = moment / 1000;
+  usec = usec_of moment;
+  date_printed = moment / 1000;
+  usec_printed = usec_of moment;
+}
 
 abbrev pub dated : ℕ → What → What
 dated moment (what.Print line) = what.Print (dated_line moment line)

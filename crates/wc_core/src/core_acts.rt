@@ -17,6 +17,7 @@ ghost use Rattle.wc_servers.specs.Seats.{server_link, seat_link, is_open_at};
 
 use crate::core_state::Core;
 use crate::refusals::refusal_text;
+use crate::resolve::usec_of;
 use wc_buffers::BufferSpec;
 use wc_irc::Act;
 use wc_model::{Change, What};
@@ -33,7 +34,9 @@ fn dated(moment: u64, what: What) -> What
     match what {
         What::Print(mut line) => {
             line.date = moment / 1000;
+            line.usec = usec_of(moment);
             line.date_printed = moment / 1000;
+            line.usec_printed = usec_of(moment);
             What::Print(line)
         }
         other => other,

@@ -265,7 +265,7 @@ impl Core {
         ensures admitted { result ≡ None →
             self.new ≡ record self.old {
               connections = self.old.connections
-                  ++ new_connection self.old.options arrival.link arrival.nonce ∷ [];
+                  ++ new_connection arrival.link arrival.nonce ∷ [];
               servers = used_up arrival.link.0 self.old.servers;
             } }
         ensures refused { IfSome result
@@ -282,7 +282,7 @@ impl Core {
         if self.is_full() {
             return Some(Cause::Surplus);
         }
-        if self.board.admit(arrival, &self.options).is_err() {
+        if self.board.admit(arrival).is_err() {
             self.count_starved(1);
             return Some(Cause::NoMemory);
         }

@@ -2,7 +2,7 @@ ghost use Rattle.std.specs.Option.{option_copied};
 ghost use Rattle.std.specs.Prelude.{◌≡◌, IfOk, ◌++◌, [], ℕ, ◌^◌, ◌-◌, min};
 ghost use Rattle.wc_core.specs.Resolved.{SetsOption, UnsetsOption, switched};
 ghost use Rattle.wc_core.specs.Resolved.{Asks, Tells, no_such_buffer, change_of, buffer_meant};
-ghost use Rattle.wc_core.specs.Resolved.{of_meant, of_named, effect_of, line_spec, core_spec};
+ghost use Rattle.wc_core.specs.Resolved.{of_meant, of_named, effect_of, line_spec, core_spec, usec_of};
 ghost use Rattle.wc_core.specs.Resolved.{plugin_in, rename_of, told_refusal, first_of_number};
 ghost use Rattle.wc_core.specs.Resolved.{first_in, null};
 ghost use Rattle.wc_core.specs.ResolvedSeen.{outcome_of};
@@ -217,6 +217,13 @@ const CORE: Handle = Handle(1);
 /// The prefix of a line that tells a refusal.
 const REFUSAL: &[u8] = b"=!=";
 
+/// The microseconds of the second of a moment, which is in milliseconds since 1970.
+pub(crate) fn usec_of(moment: u64) -> u32
+    ensures { result ≡ usec_of moment }
+{
+    (moment % 1000) as u32 * 1000
+}
+
 /// A line that is printed at this moment, in milliseconds since 1970.
 fn line_spec(moment: u64, tags: Items<Text>, prefix: Text, message: Text) -> LineSpec
     ensures { result ≡ line_spec moment tags prefix message }
@@ -224,7 +231,9 @@ fn line_spec(moment: u64, tags: Items<Text>, prefix: Text, message: Text) -> Lin
     let levels = levels_of(tags.as_slice(), false);
     LineSpec {
         date: moment / 1000,
+        usec: usec_of(moment),
         date_printed: moment / 1000,
+        usec_printed: usec_of(moment),
         displayed: true,
         notify: levels.notify,
         highlight: levels.highlight,

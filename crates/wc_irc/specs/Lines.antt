@@ -12,7 +12,9 @@ use Rattle.wc_irc_texts.specs.Texts.{plain}
 unfoldable pub line : List (List ℕ) → List ℕ → List ℕ → Bool → LineSpec
 line tags prefix text calls_user = record {
   date = 0;
+  usec = 0;
   date_printed = 0;
+  usec_printed = 0;
   displayed = true;
   notify = notify_of tags calls_user;
   highlight = highlight_of tags calls_user;

@@ -24,7 +24,9 @@ fn line(
     let levels = levels_of(tags.as_slice(), calls_user);
     Ok(LineSpec {
         date: 0,
+        usec: 0,
         date_printed: 0,
+        usec_printed: 0,
         displayed: true,
         notify: levels.notify,
         highlight: levels.highlight,

@@ -48,7 +48,7 @@ sync_request = record { id = []; command = ask.Sync (codes "*" ∷ []) None }
 dump_request : Request
 dump_request = record {
   id = codes "l";
-  command = ask.Hdata (codes "buffer:gui_buffers(*)/own_lines/first_line(*)/data") (codes "buffer,date,date_printed,displayed,notify_level,highlight,tags_array,prefix,message");
+  command = ask.Hdata (codes "buffer:gui_buffers(*)/own_lines/first_line(*)/data") (codes "buffer,id,date,date_usec,date_printed,date_usec_printed,displayed,notify_level,highlight,tags_array,prefix,message");
 }
 
 buffers_request : Request
@@ -125,7 +125,7 @@ unfolding reply_of served sync_request
 sync_answered limit = refl
 
 abbrev told : ℕ → List WireMessage
-told limit = reply (codes "l") (hdata_objects (first_world limit) (codes "buffer:gui_buffers(*)/own_lines/first_line(*)/data") (codes "buffer,date,date_printed,displayed,notify_level,highlight,tags_array,prefix,message"))
+told limit = reply (codes "l") (hdata_objects (first_world limit) (codes "buffer:gui_buffers(*)/own_lines/first_line(*)/data") (codes "buffer,id,date,date_usec,date_printed,date_usec_printed,displayed,notify_level,highlight,tags_array,prefix,message"))
 
 dump_answered : (limit : ℕ) → reply_of (first_world limit) only_password synced dump_request ≡ replies synced (told limit)
 unfolding reply_of served dump_request synchronized

@@ -14,7 +14,8 @@ sync_line = codes "sync"
 
 abbrev pub dump_line : List ℕ
 dump_line = codes "(l) hdata buffer:gui_buffers(*)/own_lines/first_line(*)/data "
-    ++ codes "buffer,date,date_printed,displayed,notify_level,highlight,tags_array,prefix,message"
+    ++ codes "buffer,id,date,date_usec,date_printed,date_usec_printed,displayed,notify_level,"
+    ++ codes "highlight,tags_array,prefix,message"
 
 abbrev pub buffers_line : List ℕ
 buffers_line

@@ -29,7 +29,7 @@ use Rattle.wc_session.specs.declared.client.Client.{Client}
 use Rattle.wc_session.specs.declared.outcome.Outcome.{Outcome}
 use Rattle.wc_session.specs.declared.outcome.Outcome.TheVariants as outcome
 use Rattle.wc_session.specs.Sending.{reply, null_hdata}
-use Rattle.wc_session.specs.Handshakes.{choice_in, asks_escapes, handshake_objects}
+use Rattle.wc_session.specs.Handshakes.{choice_in, algorithm_for, asks_escapes, handshake_objects}
 use Rattle.wc_session.specs.Heeded.{password_of, masks_of}
 use Rattle.wc_session.specs.Logins.{pairs_let_in}
 use Rattle.wc_session.specs.Names.{buffer_named}

@@ -11,7 +11,6 @@ use Rattle.wc_core.specs.CoreView.{CoreView}
 use Rattle.wc_core.specs.State.{State, Act, Stage, Stepped, outs_of}
 use Rattle.wc_core.specs.Step.{step}
 use Rattle.wc_core.specs.Changing.{reach_step}
-use Rattle.wc_options.specs.Options.{OptionsValue}
 use Rattle.wc_board.specs.Connections.{connection_link, new_connection}
 use Rattle.wc_core.specs.Served.{links_of, state_of, WereTold, Means, refusal, Absent, AdmitsUnlessStarved}
 use Rattle.wc_core.specs.Limits.{client_limit}
@@ -92,14 +91,14 @@ pub no-starving : {A : Type 0} (old new : ℕ) → HasStarved old new → new �
 no-starving old new (inl more) same below = absurd (omega arith)
 no-starving old new (inr most) same below = absurd (omega arith)
 
-closes-push : (options : OptionsValue) (connections : List Connection) (link : LinkId) (nonce : List ℕ) → leaving_closes (connections ++ new_connection options link nonce ∷ []) ≡ leaving_closes connections
-closes-push options [] link nonce = refl
-closes-push options (s ∷ connections) link nonce = ap (λ cs. closed_by s.session.client.link s.leaving ++ cs) (closes-push options connections link nonce)
+closes-push : (connections : List Connection) (link : LinkId) (nonce : List ℕ) → leaving_closes (connections ++ new_connection link nonce ∷ []) ≡ leaving_closes connections
+closes-push [] link nonce = refl
+closes-push (s ∷ connections) link nonce = ap (λ cs. closed_by s.session.client.link s.leaving ++ cs) (closes-push connections link nonce)
 
 -- a client that came is not leaving
-pub calm-push : (old new : CoreView) (link : LinkId) (nonce : List ℕ) → new ≡ record old { connections = old.connections ++ new_connection old.options link nonce ∷ []; servers = used_up link.0 old.servers } → IsCalm old → IsCalm new
+pub calm-push : (old new : CoreView) (link : LinkId) (nonce : List ℕ) → new ≡ record old { connections = old.connections ++ new_connection link nonce ∷ []; servers = used_up link.0 old.servers } → IsCalm old → IsCalm new
 calm-push old new link nonce e calm = record {
-  parted = ap closes_asked e ∙ ap (λ cs. seat_closes old.servers.seats ++ cs) (closes-push old.options old.connections link nonce) ∙ calm.parted;
+  parted = ap closes_asked e ∙ ap (λ cs. seat_closes old.servers.seats ++ cs) (closes-push old.connections link nonce) ∙ calm.parted;
   asked = ap (λ c. c.servers.wanted) e ∙ calm.asked;
 }
 

@@ -93,13 +93,13 @@ used-order link core h = record { ranked = h.ranked; counted = (let c = h.counte
 -- the core after a client came
 abbrev came_core : CoreView → LinkId → List ℕ → CoreView
 came_core core link nonce = record core {
-  connections = core.connections ++ new_connection core.options link nonce ∷ [];
+  connections = core.connections ++ new_connection link nonce ∷ [];
   servers = used_up link.0 core.servers;
 }
 
 came-party : (k : ℕ) (core : CoreView) (link : LinkId) (nonce : List ℕ) → has_party k (came_core core link nonce) ≡ (has_party k core || eqb link.0 k)
 came-party k core link nonce =
-    ap (λ p. p || is_some (at_key seat_link k core.servers.seats)) (is_some-push connection_link k (new_connection core.options link nonce) core.connections)
+    ap (λ p. p || is_some (at_key seat_link k core.servers.seats)) (is_some-push connection_link k (new_connection link nonce) core.connections)
     ∙ or-late (is_some (at_key connection_link k core.connections)) (is_some (at_key seat_link k core.servers.seats)) (eqb link.0 k)
 
 -- what is owed at an arrival is nothing
@@ -109,7 +109,7 @@ came-sides core link nonce above = record {
   servers = λ k h. (servers-by k h, refl);
 } where
   clients-by : (k : ℕ) → IsClients k (came_core core link nonce) → IsClients k core
-  clients-by k (inl there) = there-by (eqb link.0 k) refl (sym (is_some-push connection_link k (new_connection core.options link nonce) core.connections) ∙ there)
+  clients-by k (inl there) = there-by (eqb link.0 k) refl (sym (is_some-push connection_link k (new_connection link nonce) core.connections) ∙ there)
     where
       there-by : (t : Bool) → eqb link.0 k ≡ t → (is_some (at_key connection_link k core.connections) || t) ≡ true → IsClients k core
       there-by true e q = inr (let same : link.0 ≡ k = grind (arith, nat_tests) in omega arith)
@@ -129,7 +129,7 @@ among-came states core used listening refused a b link nonce wanted next used' l
     let absent = s.unknown link.0 above in
     let nobody = nobody-new states core used listening refused a s wanted link.0 above in
     let some : (k : ℕ) → is_some (at_key link_number k (states ++ state ∷ [])) ≡ (is_some (at_key link_number k states) || eqb link.0 k) = λ k. is_some-push link_number k state states in
-    let connection = new_connection core.options link nonce in
+    let connection = new_connection link nonce in
     record {
       counted = next ∙ sym used';
       there = λ k. there k ∙ ap (λ q. q || eqb link.0 k) (s.there k) ∙ came-there k states state (eqb link.0 k) refl refl absent;

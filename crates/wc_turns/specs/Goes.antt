@@ -56,7 +56,7 @@ pub record RefusesWhole (link : ℕ) (nonce : List ℕ) (old new : CoreView) : T
 pub record ComesWhole (link : ℕ) (nonce : List ℕ) (old new : CoreView) : Type 0 where
   pub core : new ≡ record old {
     connections = old.connections
-        ++ new_connection old.options (record { 0 = link }) nonce ∷ [];
+        ++ new_connection (record { 0 = link }) nonce ∷ [];
     servers = used_up link old.servers;
   }
   pub admits : old.starved < 2 ^ 64 - 1 → (told : Beside) → WereTold old told →

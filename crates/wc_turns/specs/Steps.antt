@@ -66,7 +66,7 @@ pub record TakesArrival (x y : Headless) (link : LinkId) (nonce : List ℕ) : Ty
   pub closed : y.links.closed.items ≡ x.links.closed.items
   pub core : y.core ≡ record x.core {
     connections = x.core.connections
-        ++ new_connection x.core.options link nonce ∷ [];
+        ++ new_connection link nonce ∷ [];
     servers = used_up link.0 x.core.servers;
   }
   pub step : Absent link.0 (links_of x.core) → (told : Beside) →

@@ -54,7 +54,7 @@ const BUFFERS: Query<'static> = Query {
 const LINES: Query<'static> = Query {
     id: "l",
     path: "buffer:gui_buffers(*)/own_lines/first_line(*)/data",
-    keys: "buffer,date,date_printed,displayed,notify_level,highlight,tags_array,prefix,message",
+    keys: "buffer,id,date,date_usec,date_printed,date_usec_printed,displayed,notify_level,highlight,tags_array,prefix,message",
 };
 
 fn show_walked(alloc: Global, out: &mut Sheet, world: &World, query: Query<'_>, path: &Path) {

@@ -13,8 +13,11 @@ pub const HANDLES: u64 = 1100;
 #[derive(Clone, Copy)]
 struct LineView<'a> {
     content: Handle,
+    id: u32,
     date: u64,
+    usec: u32,
     date_printed: u64,
+    usec_printed: u32,
     displayed: bool,
     notify: i8,
     highlight: bool,
@@ -27,8 +30,12 @@ fn show_line(out: &mut Sheet, buffer: Handle, line: &LineView<'_>) {
     out.put_number(": ", line.content.0);
     out.put_text(" ", line.prefix);
     out.put_text(" ", line.message);
-    out.put_number(" at ", line.date);
-    out.put_number(", printed ", line.date_printed);
+    out.put_number(" with id ", u64::from(line.id));
+    out.put_number(", at ", line.date);
+    out.put_number(" and ", u64::from(line.usec));
+    out.put_number(" us, printed ", line.date_printed);
+    out.put_number(" and ", u64::from(line.usec_printed));
+    out.put(" us");
     out.put(if line.displayed {
         ", shown"
     } else {
@@ -50,8 +57,11 @@ fn show_tags(out: &mut Sheet, count: usize, tags: TagIter<'_>) {
 fn show_of_world(out: &mut Sheet, buffer: Handle, line: &PackedLine) {
     let view = LineView {
         content: line.content(),
+        id: line.id(),
         date: line.date(),
+        usec: line.usec(),
         date_printed: line.date_printed(),
+        usec_printed: line.usec_printed(),
         displayed: line.displayed(),
         notify: line.notify(),
         highlight: line.highlight(),
@@ -91,8 +101,11 @@ pub fn world_lines(out: &mut Sheet, world: &World) {
 fn show_of_mirror(out: &mut Sheet, buffer: Handle, line: &PackedMirrorLine) {
     let view = LineView {
         content: line.content(),
+        id: line.id(),
         date: line.date(),
+        usec: line.usec(),
         date_printed: line.date_printed(),
+        usec_printed: line.usec_printed(),
         displayed: line.displayed(),
         notify: line.notify(),
         highlight: line.highlight(),
