@@ -43,8 +43,8 @@ tags_short count size (tag ∷ tags) most = by (ltb 32 (count + 1)) (ltb 256 (si
 cut_size : (text : List ℕ) (limit : ℕ) → length (cut_to limit text) ≤ limit
 cut_size text limit = omega (arith, length-take (cut_of text limit) text, cut_within text limit)
 
-pub line_printed : (next : ℕ) (spec : LineSpec) → next ≤ 2 ^ 62 → All IsUtf8 spec.tags → FitsSigned w8 spec.notify → IsPrinted (line_of next spec)
-line_printed next spec below tags level = record {
+pub line_printed : (printed next : ℕ) (spec : LineSpec) → next ≤ 2 ^ 62 → All IsUtf8 spec.tags → FitsSigned w8 spec.notify → IsPrinted (line_of printed next spec)
+line_printed printed next spec below tags level = record {
   handle = omega arith;
   content = omega arith;
   notify = level;

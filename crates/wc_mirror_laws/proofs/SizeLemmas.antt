@@ -122,28 +122,15 @@ values_size (value ∷ values) (n ∷ ns) all =
     omega (arith, length-append (value_bytes value) (flat_map value_bytes values))
 
 abbrev line_sizes : List ℕ
-line_sizes = 17 ∷ 22 ∷ 22 ∷ 1 ∷ 1 ∷ 1 ∷ 391 ∷ 132 ∷ 1028 ∷ []
+line_sizes = 17 ∷ 4 ∷ 22 ∷ 4 ∷ 22 ∷ 4 ∷ 1 ∷ 1 ∷ 1 ∷ 391 ∷ 132 ∷ 1028 ∷ []
 
 values_short : (buffer : Handle) (line : Line) → buffer.0 < 2 ^ 64 → IsPrinted line → AreAtMost (line_values buffer line) line_sizes
 unfolding line_values
 values_short buffer line small is = (
   pointer_short buffer.0 small,
-  (
-    date_short line.date,
-    (
-      date_short line.date_printed,
-      (
-        level_short (truth line.displayed),
-        (
-          level_short line.notify,
-          (
-            level_short (truth line.highlight),
-            (tags_short line.tags is.few is.tags, (text_short 128 line.prefix is.prefix, (text_short 1024 line.message is.message, tt))),
-          ),
-        ),
-      ),
-    ),
-  ),
+  (number_short (count line.id), (date_short line.date, (number_short (count line.usec), (date_short line.date_printed, (number_short (count line.usec_printed),
+  (level_short (truth line.displayed), (level_short line.notify, (level_short (truth line.highlight),
+  (tags_short line.tags is.few is.tags, (text_short 128 line.prefix is.prefix, (text_short 1024 line.message is.message, tt))))))))))),
 )
 
 named_short : (notice : Notice) → length notice.full_name ≤ 256 → AreAtMost (named_values notice) (4 ∷ 260 ∷ [])
@@ -163,7 +150,7 @@ pointers_size (p ∷ pointers) all =
 abbrev pub IsSmall : HdaItem → Type 0
 IsSmall item = length (item_bytes item) ≤ 1700
 
-pub item_size : (pointers : List ℕ) (values : List Object) (ns : List ℕ) → length pointers ≤ 4 → AllByRecursion (λ p. p < 2 ^ 64) pointers → AreAtMost values ns → total ns ≤ 1615
+pub item_size : (pointers : List ℕ) (values : List Object) (ns : List ℕ) → length pointers ≤ 4 → AllByRecursion (λ p. p < 2 ^ 64) pointers → AreAtMost values ns → total ns ≤ 1627
     → length (flat_map pointer_bytes pointers ++ flat_map value_bytes values) ≤ 1700
 item_size pointers values ns few small all most =
     let front = pointers_size pointers small in

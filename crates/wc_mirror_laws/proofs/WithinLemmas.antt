@@ -18,7 +18,7 @@ use Rattle.wc_objects.specs.declared.object.Object.TheViews.{out-roll-Object, ou
 use Rattle.wc_objects.specs.declared.object.Hda.{Hda, roll-Hda}
 use Rattle.wc_objects.specs.declared.object.HdaItem.{HdaItem, roll-HdaItem}
 use Rattle.wc_objects.specs.Within.{ValueWithin, ItemWithin, HdaWithin, ObjectWithin}
-use Rattle.wc_events.specs.LineObjects.{truth, moment, line_keys, line_values, added_item, added_objects}
+use Rattle.wc_events.specs.LineObjects.{truth, count, moment, line_keys, line_values, added_item, added_objects}
 use Rattle.wc_events.specs.BufferObjects.{about, opened_keys, opened_values, opened_objects, placed_keys, placed_values, placed_objects, renamed_keys, renamed_values, renamed_objects, title_keys, title_values, title_objects, vars_keys, vars_values, vars_objects, named_keys, named_values, named_objects}
 use Rattle.wc_events.specs.NickObjects.{nick_path, nick_keys, nick_values, nick_item, mark_code, diff_item, nick_objects}
 use Rattle.wc_hdata.proofs.ValuesWithin.{moment_within, count_within, truth_within, flag_within, value_tim, value_chr, value_int, value_ptr, value_str, value_texts, value_table}
@@ -44,19 +44,10 @@ values_within : (buffer : Handle) (line : Line) → buffer.0 < 2 ^ 64 → IsPrin
 unfolding line_values
 values_within buffer line small is = (
   value_ptr buffer.0 small,
-  (
-    value_tim (moment line.date) (moment_within line.date),
-    (
-      value_tim (moment line.date_printed) (moment_within line.date_printed),
-      (
-        value_chr (truth line.displayed) (truth_within line.displayed),
-        (
-          value_chr line.notify is.notify,
-          (value_chr (truth line.highlight) (truth_within line.highlight), (value_texts line.tags, (value_str line.prefix, (value_str line.message, tt)))),
-        ),
-      ),
-    ),
-  ),
+  (value_int (count line.id) (count_within line.id), (value_tim (moment line.date) (moment_within line.date),
+  (value_int (count line.usec) (count_within line.usec), (value_tim (moment line.date_printed) (moment_within line.date_printed),
+  (value_int (count line.usec_printed) (count_within line.usec_printed), (value_chr (truth line.displayed) (truth_within line.displayed),
+  (value_chr line.notify is.notify, (value_chr (truth line.highlight) (truth_within line.highlight), (value_texts line.tags, (value_str line.prefix, (value_str line.message, tt)))))))))),
 )
 
 added_within : (buffer : Handle) (line : Line) → buffer.0 < 2 ^ 64 → IsPrinted line → ItemWithin (added_item buffer line)

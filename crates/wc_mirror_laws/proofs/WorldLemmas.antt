@@ -42,7 +42,7 @@ use Rattle.wc_model.specs.declared.change.What.{What}
 use Rattle.wc_model.specs.declared.change.What.TheVariants.{Add, Close, MoveTo, MergeInto, Unmerge, Hide, Unhide, Rename, ShortName, Title, SetVar, RemoveVar, Print, Clear, Flips, AddGroup, AddNick, RemoveGroup, RemoveNick, ChangeGroup, ChangeNick}
 use Rattle.wc_model.specs.declared.refused.ChangeRefused.{ChangeRefused}
 use Rattle.wc_model.specs.declared.refused.ChangeRefused.TheVariants as refused
-use Rattle.wc_model.specs.World.{World, core_row, first_world, lines_at, rows_at, row_count, row_limit, last_handle}
+use Rattle.wc_model.specs.World.{World, core_row, first_world, lines_at, printed_at, rows_at, row_count, row_limit, last_handle}
 use Rattle.wc_model.specs.LineCuts.{line_of}
 use Rattle.wc_model.specs.Apply.{refusal_of, after_of, of_buffers, or_else as or_refused, refusal_of_handles, with_groups, with_lines, flip_all, with_flips, row_of as new_row, adds_row, removes_row, changes_row, with_rows, item_with, with_row, without_row, handle_in, with_changed_row}
 use Rattle.wc_model.specs.Touches.{told_after}
@@ -199,15 +199,15 @@ last_within : {X : Type 0} (n : ℕ) (xs : List X) → length (last_of n xs) ≤
 last_within n xs = omega (arith, length-drop (length xs - n) xs)
 
 print_kept : (limit : ℕ) (w : World) (h : Handle) (spec : LineSpec) → IsWorldKept limit w → is_there h w.groups ≡ true → w.next + 2 ≤ 2 ^ 62 + 1 → All IsUtf8 spec.tags → FitsSigned w8 spec.notify
-    → IsWorldKept limit (record (with_lines w h (last_of w.limit (lines_at w h.0 ++ line_of w.next spec ∷ []))) { next = w.next + 2 })
+    → IsWorldKept limit (record (with_lines w h (last_of w.limit (lines_at w h.0 ++ line_of (printed_at w h.0) w.next spec ∷ []))) { printed = insert w.printed h.0 (printed_at w h.0 + 1); next = w.next + 2 })
 print_kept limit w h spec is there room tags level =
-    let all = lines_at w h.0 ++ line_of w.next spec ∷ [] in
+    let all = lines_at w h.0 ++ line_of (printed_at w h.0) w.next spec ∷ [] in
     let ms = last_of w.limit all in
-    relined limit w (record (with_lines w h ms) { next = w.next + 2 }) h.0 ms is refl (omega arith) room is.groups
+    relined limit w (record (with_lines w h ms) { printed = insert w.printed h.0 (printed_at w h.0 + 1); next = w.next + 2 }) h.0 ms is refl (omega arith) room is.groups
     (all_grown w.next (w.next + 2) (omega arith) w.groups is.each)
     (put_at w h.0 ms)
     (subst (λ n. length ms ≤ n) is.same (last_within w.limit all))
-    (All-drop IsPrinted (length all - w.limit) all (All-push IsPrinted (lines_at w h.0) (line_of w.next spec) (is.printed h.0) (line_printed w.next spec (omega arith) tags level)))
+    (All-drop IsPrinted (length all - w.limit) all (All-push IsPrinted (lines_at w h.0) (line_of (printed_at w h.0) w.next spec) (is.printed h.0) (line_printed (printed_at w h.0) w.next spec (omega arith) tags level)))
     (there_or_none w limit h.0 ms is there) (lists_kept w.next (w.next + 2) w.groups w.groups w.nicks (omega arith) (λ q. refl) is.nicks) is.counted
 
 -- ---- a new buffer
@@ -220,7 +220,7 @@ pub is_new : (limit : ℕ) (w : World) → IsWorldKept limit w → has handle_of
 is_new limit w is = sym (in_rows handle_of w.next w.groups) ∙ never_next w.next (rows w.groups) is.each
 
 add_kept : (limit : ℕ) (w : World) (spec : BufferSpec) → IsWorldKept limit w → add_refusal (new_row w.next spec) spec.vars w.groups ≡ None → w.next + 4 ≤ 2 ^ 62 + 1
-    → IsTold (Add spec) → IsWorldKept limit (record w { groups = with_buffer (new_row w.next spec) spec.vars w.groups; lines = insert w.lines w.next []; nicks = insert w.nicks w.next []; next = w.next + 4 })
+    → IsTold (Add spec) → IsWorldKept limit (record w { groups = with_buffer (new_row w.next spec) spec.vars w.groups; lines = insert w.lines w.next []; printed = insert w.printed w.next 0; nicks = insert w.nicks w.next []; next = w.next + 4 })
 unfolding add_refusal
 add_kept limit w spec is good room told =
     let row = new_row w.next spec in
@@ -230,7 +230,7 @@ add_kept limit w spec is good room told =
     let absent = has_handles w.next w.groups ∙ is_new limit w is in
     let fits = opened_fits row spec.vars (record { full_name = told.0; short_name = told.1; title = told.2 }) told.3 names.0 parts.1 in
     let new : IsBufferKept (w.next + 4) e = record { fit = fits; names = opened_short row spec.vars names.0; some = is.started; below = omega arith; own = omega arith; mixed = omega arith } in
-    relined limit w (record w { groups = with_buffer row spec.vars w.groups; lines = insert w.lines w.next []; nicks = insert w.nicks w.next []; next = w.next + 4 }) w.next [] is refl (omega arith) room
+    relined limit w (record w { groups = with_buffer row spec.vars w.groups; lines = insert w.lines w.next []; printed = insert w.printed w.next 0; nicks = insert w.nicks w.next []; next = w.next + 4 }) w.next [] is refl (omega arith) room
     (subst AreGroups (sym (map-append (map (λ (e : BufferEntry). e.row.handle)) w.groups ((e ∷ []) ∷ []))) (added_are row.handle (handles w.groups) is.groups absent (subst (λ n. n < 256) (sym (rows_handles w.groups)) names.2)))
     (added_rows (IsBufferKept (w.next + 4)) handle_of e w.groups new (all_grown w.next (w.next + 4) (omega arith) w.groups is.each))
     (put_at w w.next []) (omega arith) (All-nil IsPrinted)
@@ -241,9 +241,9 @@ add_kept limit w spec is good room told =
     by q true lacks = refl
     by q false lacks = is.none q lacks
 
-close_kept : (limit : ℕ) (w : World) (h : Handle) → IsWorldKept limit w → IsWorldKept limit (record w { groups = without_buffer h w.groups; lines = remove w.lines h.0; nicks = remove w.nicks h.0 })
+close_kept : (limit : ℕ) (w : World) (h : Handle) → IsWorldKept limit w → IsWorldKept limit (record w { groups = without_buffer h w.groups; lines = remove w.lines h.0; printed = remove w.printed h.0; nicks = remove w.nicks h.0 })
 close_kept limit w h is =
-    relined limit w (record w { groups = without_buffer h w.groups; lines = remove w.lines h.0; nicks = remove w.nicks h.0 }) h.0 [] is refl is.started is.ended
+    relined limit w (record w { groups = without_buffer h w.groups; lines = remove w.lines h.0; printed = remove w.printed h.0; nicks = remove w.nicks h.0 }) h.0 [] is refl is.started is.ended
     (groups_taken h.0 w.groups is.groups) (taken_rows (IsBufferKept w.next) handle_of h.0 w.groups is.each)
     (removed_at w h.0) (omega arith) (All-nil IsPrinted) gone
     (lists_closed w.next h w.groups w.nicks is.nicks) (count_closed w.nicks h.0 row_limit is.counted)
