@@ -1,5 +1,6 @@
 //! Values in quotes. A backslash is before each quote and each backslash of the value.
-ghost use Rattle.std.specs.Prelude.{◌≡◌, ◌++◌, ◌∷◌, Ok, Some, IfOk, IfSome, OnOk, length, position, slice_index_or, true};
+ghost use Rattle.std.specs.Prelude.{◌≡◌, ◌++◌, ◌∷◌, Ok, Some, IfOk, IfSome, OnOk, length, true};
+ghost use Rattle.std.specs.Prelude.{position, slice_index_or};
 ghost use Rattle.wc_options.specs.Quotes.{is_marked, escaped, quoted, unescaped, unquoted};
 ghost use Rattle.wc_options.specs.Quotes.{after_mark, LeavesBelow};
 
