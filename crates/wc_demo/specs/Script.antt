@@ -41,7 +41,8 @@ abbrev pub dump_steps : List Scripted
 dump_steps = Gives client (codes "(b) hdata buffer:gui_buffers(*) "
     ++ codes "number,full_name,short_name,hidden,title,local_variables\n")
     ∷ Gives client (codes "(l) hdata buffer:gui_buffers(*)/own_lines/first_line(*)/data "
-    ++ codes "buffer,date,date_printed,displayed,notify_level,highlight,tags_array,prefix,message\n")
+    ++ codes "buffer,id,date,date_usec,date_printed,date_usec_printed,"
+    ++ codes "displayed,notify_level,highlight,tags_array,prefix,message\n")
     ∷ Gives client (codes "(n) nicklist\n") ∷ []
 
 -- what is before the first line: the client takes its dumps after the server let the program on

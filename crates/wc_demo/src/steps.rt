@@ -73,7 +73,7 @@ fn push_dumps(alloc: Global, steps: &mut Items<Scripted>) -> Result<(), NoMemory
         alloc,
         steps,
         CLIENT,
-        b"(l) hdata buffer:gui_buffers(*)/own_lines/first_line(*)/data buffer,date,date_printed,displayed,notify_level,highlight,tags_array,prefix,message\n",
+        b"(l) hdata buffer:gui_buffers(*)/own_lines/first_line(*)/data buffer,id,date,date_usec,date_printed,date_usec_printed,displayed,notify_level,highlight,tags_array,prefix,message\n",
     )?;
     push_said(alloc, steps, CLIENT, b"(n) nicklist\n")
 }

@@ -5,8 +5,16 @@ use wc_view::{Mirror, PackedMirrorLine};
 
 fn put_dates(out: &mut Sheet, line: &PackedMirrorLine) {
     let date = line.date();
+    let usec = line.usec();
     let printed = line.date_printed();
-    let written = write!(out.text, " date {date} printed {printed}");
+    let usec_printed = line.usec_printed();
+    let written = write!(out.text, " date {date} usec {usec} printed {printed} usec {usec_printed}");
+    out.note(written);
+}
+
+fn put_id(out: &mut Sheet, line: &PackedMirrorLine) {
+    let id = line.id();
+    let written = write!(out.text, " id {id}");
     out.note(written);
 }
 
@@ -29,6 +37,7 @@ fn put_line(out: &mut Sheet, line: &PackedMirrorLine) {
     out.note(written);
     put_text(out, line.prefix());
     put_text(out, line.message());
+    put_id(out, line);
     put_dates(out, line);
     put_marks(out, line);
     put_tags(out, line);

@@ -12,16 +12,16 @@ use Rattle.wc_objects.specs.declared.object.Object.TheViews.{out-Object, out-rol
 use Rattle.wc_objects.specs.declared.object.Hda.{roll-Hda}
 use Rattle.wc_objects.specs.declared.object.HdaItem.{HdaItem, roll-HdaItem}
 use Rattle.wc_model.specs.declared.notice.Notice.{Notice}
-use Rattle.wc_events.specs.LineObjects.{truth, moment, texts, line_keys, line_values, on_path, added_item, added_objects, dumped_item}
+use Rattle.wc_events.specs.LineObjects.{truth, count, moment, texts, line_keys, line_values, on_path, added_item, added_objects, dumped_item}
 use Rattle.wc_events.specs.BufferObjects.{named_keys, named_values, named_objects}
 use Rattle.wc_view.specs.declared.rows.LineRow.{LineRow}
 use Rattle.wc_view.specs.Each.{each, only}
 use Rattle.wc_view.specs.Values.{pointer_in, date_in, number_in, level_in, truth_in, text_in, texts_in}
 use Rattle.wc_view.specs.Items.{items_on}
-use Rattle.wc_view.specs.Rows.{marks_in, line_texts_in, row_of, row_in, rows_on}
+use Rattle.wc_view.specs.Rows.{dates_in, marks_in, line_texts_in, row_of, row_in, rows_on}
 use Rattle.wc_view.specs.Named.{named_in, buffer_named}
 use Rattle.wc_view.specs.Fold.{only_row}
-use Rattle.wc_view.specs.Views.{shown_date, shown_line}
+use Rattle.wc_view.specs.Views.{shown_date, shown_number, shown_line}
 
 pub pointer_told : (n : ℕ) → pointer_in (o.Ptr n) ≡ Some n
 unfolding out-Object out
@@ -30,6 +30,10 @@ pointer_told n = refl
 pub date_told : (date : ℕ) → date_in (o.Tim (moment date)) ≡ Some (shown_date date)
 unfolding out-Object out
 date_told date = refl
+
+pub count_told : (number : ℕ) → number_in (o.Int (count number)) ≡ Some (shown_number number)
+unfolding out-Object out
+count_told number = refl
 
 pub truth_told : (on : Bool) → truth_in (o.Chr (truth on)) ≡ Some on
 unfolding out-Object out
@@ -60,9 +64,9 @@ abbrev pub row : Handle → Line → LineRow
 row buffer line = record { buffer = buffer.0; line = shown_line line }
 
 values_told : (buffer : Handle) (line : Line) → row_of (Some line.content.0) (line_values buffer line) ≡ Some (row buffer line)
-unfolding line_values marks_in line_texts_in
+unfolding line_values dates_in marks_in line_texts_in
 values_told buffer line =
-    rw (pointer_told, date_told, date_told, truth_told, level_told, truth_told, texts_told, text_told, text_told) refl
+    rw (date_told, count_told, date_told, count_told, pointer_told, count_told, truth_told, level_told, truth_told, texts_told, text_told, text_told) refl
 
 pub added_told : (buffer : Handle) (line : Line) → row_in (added_item buffer line) ≡ Some (row buffer line)
 unfolding row_in added_item

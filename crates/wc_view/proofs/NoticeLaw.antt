@@ -20,7 +20,7 @@ use Rattle.wc_model.specs.declared.change.What.TheVariants.{Add, Close, MoveTo, 
 use Rattle.wc_model.specs.declared.notice.EventKind.{EventKind}
 use Rattle.wc_model.specs.declared.notice.EventKind.TheVariants as kind
 use Rattle.wc_model.specs.declared.notice.Notice.{Notice}
-use Rattle.wc_model.specs.World.{World, lines_at as lines_in}
+use Rattle.wc_model.specs.World.{World, lines_at as lines_in, printed_at}
 use Rattle.wc_model.specs.Apply.{after_of, flip_all, with_flips}
 use Rattle.wc_model.specs.LineCuts.{line_of}
 use Rattle.wc_model.specs.Notices.{notice_of, var_kind}
@@ -249,11 +249,12 @@ print_shows : (limit : ℕ) (id : List ℕ) (part : Option Part) (world : World)
 unfolding after_of objects_of
 print_shows limit id part world buffer spec stands limited free had =
     let following = after_of world buffer (Print spec) in
-    let lines = last_of world.limit (lines_in world buffer.0 ++ line_of world.next spec ∷ []) in
+    let line = line_of (printed_at world buffer.0) world.next spec in
+    let lines = last_of world.limit (lines_in world buffer.0 ++ line ∷ []) in
     let here : lines_in following buffer.0 ≡ lines = inserted world following buffer.0 lines refl buffer.0 ∙ ap (λ b. cond b lines (lines_in world buffer.0)) (eq-eqb buffer.0 buffer.0 refl) in
     subst (λ n. HasAll (fold_told n id part (told_newest buffer (lines_in following buffer.0))) following) limited
     (subst (λ held. HasAll (fold_told world.limit id part (told_newest buffer held)) following) (sym here)
-    (told_shows world.limit id part world following buffer (line_of world.next spec) free stands.within (inserted world following buffer.0 lines refl) had))
+    (told_shows world.limit id part world following buffer line free stands.within (inserted world following buffer.0 lines refl) had))
 
 pub change_shows : (limit : ℕ) (id : List ℕ) (part : Option Part) (world : World) (buffer : Handle) (what : What)
     → IsMirrorable world → world.limit ≡ limit → IsFree id → SetsNoFlags what → HasAll part world → Shows limit id part world buffer what

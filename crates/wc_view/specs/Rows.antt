@@ -6,27 +6,42 @@ use Rattle.wc_objects.specs.declared.object.Object.{Object}
 use Rattle.wc_objects.specs.declared.object.HdaItem.{HdaItem, out-HdaItem}
 use Rattle.wc_keys.specs.declared.key.KeyList.TheVariants as l
 use Rattle.wc_keys.specs.Keys.{list_text}
+use Rattle.wc_view.specs.declared.rows.LineDates.{LineDates}
 use Rattle.wc_view.specs.declared.rows.LineMarks.{LineMarks}
 use Rattle.wc_view.specs.declared.rows.LineRow.{LineRow}
 use Rattle.wc_view.specs.Each.{each}
 use Rattle.wc_view.specs.Items.{items_on, last_pointer}
-use Rattle.wc_view.specs.Values.{pointer_in, date_in, level_in, truth_in, text_in, texts_in}
+use Rattle.wc_view.specs.Values.{pointer_in, date_in, number_in, level_in, truth_in, text_in}
+use Rattle.wc_view.specs.Values.{texts_in}
+
+-- what the values say that are dates
+unfoldable pub dates_in : Object → Object → Object → Object → Option LineDates
+dates_in date usec printed usec_printed =
+    option_and_then (λ date. option_and_then (λ usec. option_and_then (λ printed.
+    option_and_then (λ usec_printed.
+    Some (record {
+      date = date;
+      usec = usec;
+      date_printed = printed;
+      usec_printed = usec_printed;
+    }))
+    (number_in usec_printed)) (date_in printed)) (number_in usec)) (date_in date)
 
 -- what the values say that are numbers
-unfoldable pub marks_in : Object → Object → Object → Object → Object → Object → Option LineMarks
-marks_in buffer date printed displayed notify highlight =
-    option_and_then (λ buffer. option_and_then (λ date. option_and_then (λ printed.
-    option_and_then (λ displayed. option_and_then (λ notify. option_and_then (λ highlight.
+unfoldable pub marks_in : Object → Object → LineDates → Object → Object → Object → Option LineMarks
+marks_in buffer id dates displayed notify highlight =
+    option_and_then (λ buffer. option_and_then (λ id. option_and_then (λ displayed.
+    option_and_then (λ notify. option_and_then (λ highlight.
     Some (record {
       buffer = buffer;
-      date = date;
-      date_printed = printed;
+      id = id;
+      dates = dates;
       displayed = displayed;
       notify = notify;
       highlight = highlight;
     }))
-    (truth_in highlight)) (level_in notify)) (truth_in displayed)) (date_in printed))
-    (date_in date)) (pointer_in buffer)
+    (truth_in highlight)) (level_in notify)) (truth_in displayed)) (number_in id))
+    (pointer_in buffer)
 
 -- what the values say that are texts
 unfoldable pub line_texts_in : Object → Object → Object → Option LineTexts
@@ -40,8 +55,11 @@ row_with content marks texts = record {
   buffer = marks.buffer;
   line = record {
     content = record { 0 = content };
-    date = marks.date;
-    date_printed = marks.date_printed;
+    id = marks.id;
+    date = marks.dates.date;
+    usec = marks.dates.usec;
+    date_printed = marks.dates.date_printed;
+    usec_printed = marks.dates.usec_printed;
     displayed = marks.displayed;
     notify = marks.notify;
     highlight = marks.highlight;
@@ -54,12 +72,13 @@ row_with content marks texts = record {
 -- a line and its buffer, by the last pointer, which is that of the line's content, and the values
 -- in the order of the keys
 abbrev pub row_of : Option ℕ → List Object → Option LineRow
-row_of content (buffer ∷ date ∷ printed ∷ displayed ∷ notify ∷ highlight ∷ tags ∷ prefix ∷
-    message ∷ []) =
-    option_and_then (λ content. option_and_then
+row_of content (buffer ∷ id ∷ date ∷ usec ∷ printed ∷ usec_printed ∷ displayed ∷ notify ∷
+    highlight ∷ tags ∷ prefix ∷ message ∷ []) =
+    option_and_then (λ content. option_and_then (λ dates. option_and_then
     (λ marks. option_and_then (λ texts. Some (row_with content marks texts))
     (line_texts_in tags prefix message))
-    (marks_in buffer date printed displayed notify highlight)) content
+    (marks_in buffer id dates displayed notify highlight))
+    (dates_in date usec printed usec_printed)) content
 row_of content _ = None
 
 unfoldable pub row_in : HdaItem → Option LineRow

@@ -22,12 +22,19 @@ use Rattle.wc_view.specs.Fold.{fold_lines}
 abbrev pub shown_date : ℕ → ℕ
 shown_date date = if nat_le date (2 ^ 63 - 1) then date else 2 ^ 63 - 1
 
+-- a number, which counts as the greatest that a message may hold where it is greater
+abbrev pub shown_number : ℕ → ℕ
+shown_number number = if nat_le number (2 ^ 31 - 1) then number else 2 ^ 31 - 1
+
 -- a line without its own handle
 abbrev pub shown_line : Line → MirrorLine
 shown_line line = record {
   content = line.content;
+  id = shown_number line.id;
   date = shown_date line.date;
+  usec = shown_number line.usec;
   date_printed = shown_date line.date_printed;
+  usec_printed = shown_number line.usec_printed;
   displayed = line.displayed;
   notify = line.notify;
   highlight = line.highlight;

@@ -10,10 +10,16 @@ use wc_text::{Duplicate, Handle, Items, NoMemory, Pair, Text};
 pub struct MirrorLine {
     /// The name of what the line says, which a mixed buffer's line shares.
     pub content: Handle,
+    /// The number of the line in its buffer.
+    pub id: u32,
     /// In seconds since 1970.
     pub date: u64,
+    /// The microseconds of the date.
+    pub usec: u32,
     /// In seconds since 1970.
     pub date_printed: u64,
+    /// The microseconds of the date of printing.
+    pub usec_printed: u32,
     /// No filter hides it.
     pub displayed: bool,
     /// The level of notification, from -1 for none to 3.

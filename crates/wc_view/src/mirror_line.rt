@@ -13,20 +13,24 @@ use std::mem::size_of;
 use wc_lines::{PackedTexts, TagIter};
 use wc_text::Handle;
 
-/// A line that a mirror holds. Contracts see the line.
+/// A line that a mirror holds, ordered so that no room is lost between the fields. Contracts see the
+/// line.
 #[derive(Drop)]
 pub struct PackedMirrorLine {
     content: Handle,
     date: u64,
     date_printed: u64,
     texts: PackedTexts,
+    id: u32,
+    usec: u32,
+    usec_printed: u32,
     displayed: bool,
     notify: i8,
     highlight: bool,
 }
 
 // What a line takes in its list, beside the block of its texts.
-const _: () = prove!(size_of::<PackedMirrorLine>() <= 64);
+const _: () = prove!(size_of::<PackedMirrorLine>() <= 72);
 
 impl Model for PackedMirrorLine {
     ghost use Rattle.wc_view.specs.declared.mirror_buffer.MirrorLine.{MirrorLine};
@@ -35,8 +39,11 @@ impl Model for PackedMirrorLine {
 
     ghost view = { λ a. record {
       content = a.content;
+      id = a.id;
       date = a.date;
+      usec = a.usec;
       date_printed = a.date_printed;
+      usec_printed = a.usec_printed;
       displayed = a.displayed;
       notify = a.notify;
       highlight = a.highlight;
@@ -53,9 +60,12 @@ impl PackedMirrorLine {
     {
         PackedMirrorLine {
             content: Handle(content),
-            date: marks.date,
-            date_printed: marks.date_printed,
+            date: marks.dates.date,
+            date_printed: marks.dates.date_printed,
             texts,
+            id: marks.id,
+            usec: marks.dates.usec,
+            usec_printed: marks.dates.usec_printed,
             displayed: marks.displayed,
             notify: marks.notify,
             highlight: marks.highlight,
@@ -69,6 +79,13 @@ impl PackedMirrorLine {
         self.content
     }
 
+    /// The number of the line in its buffer.
+    pub fn id(&self) -> u32
+        ensures { result ≡ self.now.id }
+    {
+        self.id
+    }
+
     /// In seconds since 1970.
     pub fn date(&self) -> u64
         ensures { result ≡ self.now.date }
@@ -76,11 +93,25 @@ impl PackedMirrorLine {
         self.date
     }
 
+    /// The microseconds of the date.
+    pub fn usec(&self) -> u32
+        ensures { result ≡ self.now.usec }
+    {
+        self.usec
+    }
+
     /// In seconds since 1970.
     pub fn date_printed(&self) -> u64
         ensures { result ≡ self.now.date_printed }
     {
         self.date_printed
+    }
+
+    /// The microseconds of the date of printing.
+    pub fn usec_printed(&self) -> u32
+        ensures { result ≡ self.now.usec_printed }
+    {
+        self.usec_printed
     }
 
     /// Whether no filter hides it.

@@ -2,11 +2,11 @@
 
 ghost use Rattle.std.specs.Prelude.{◌≡◌, Option, option_map, List, IfOk};
 ghost use Rattle.wc_view.specs.Each.{each, only};
-ghost use Rattle.wc_view.specs.Rows.{marks_in, line_texts_in, row_with, row_in, rows_on};
+ghost use Rattle.wc_view.specs.Rows.{dates_in, marks_in, line_texts_in, row_with, row_in, rows_on};
 
 use crate::items::{items_on, last_pointer};
 use crate::mirror_line::PackedMirrorLine;
-use crate::values::{date_in, level_in, pointer_in, text_in, texts_in, truth_in};
+use crate::values::{date_in, level_in, number_in, pointer_in, text_in, texts_in, truth_in};
 use std::alloc::Global;
 use wc_keys::KeyList;
 use wc_lines::PackedTexts;
@@ -20,52 +20,69 @@ pub(crate) struct LineRow {
     pub line: PackedMirrorLine,
 }
 
+/// When a line was dated and printed, in seconds since 1970 and microseconds.
+#[derive(Clone, Copy)]
+pub(crate) struct LineDates {
+    pub date: u64,
+    pub usec: u32,
+    pub date_printed: u64,
+    pub usec_printed: u32,
+}
+
 /// What a line's numbers say.
 #[derive(Clone, Copy)]
 pub(crate) struct LineMarks {
     pub buffer: u64,
-    pub date: u64,
-    pub date_printed: u64,
+    pub id: u32,
+    pub dates: LineDates,
     pub displayed: bool,
     pub notify: i8,
     pub highlight: bool,
+}
+
+/// What the values say that are dates. None where one can not be that of a line.
+#[tactic(auto, unfolding(crate::specs::Rows::dates_in))]
+fn dates_in(
+    date: &Object,
+    usec: &Object,
+    printed: &Object,
+    usec_printed: &Object,
+) -> Option<LineDates>
+    ensures { result ≡ dates_in date.now usec.now printed.now usec_printed.now }
+{
+    let date = date_in(date)?;
+    let usec = number_in(usec)?;
+    let date_printed = date_in(printed)?;
+    let usec_printed = number_in(usec_printed)?;
+    Some(LineDates {
+        date,
+        usec,
+        date_printed,
+        usec_printed,
+    })
 }
 
 /// What the values say that are numbers. None where one can not be that of a line.
 #[tactic(auto, unfolding(crate::specs::Rows::marks_in))]
 fn marks_in(
     buffer: &Object,
-    date: &Object,
-    printed: &Object,
+    id: &Object,
+    dates: LineDates,
     displayed: &Object,
     notify: &Object,
     highlight: &Object,
 ) -> Option<LineMarks>
-    ensures { result ≡ marks_in buffer.now date.now printed.now displayed.now notify.now
-        highlight.now }
+    ensures { result ≡ marks_in buffer.now id.now dates displayed.now notify.now highlight.now }
 {
-    let Some(buffer) = pointer_in(buffer) else {
-        return None;
-    };
-    let Some(date) = date_in(date) else {
-        return None;
-    };
-    let Some(date_printed) = date_in(printed) else {
-        return None;
-    };
-    let Some(displayed) = truth_in(displayed) else {
-        return None;
-    };
-    let Some(notify) = level_in(notify) else {
-        return None;
-    };
-    let Some(highlight) = truth_in(highlight) else {
-        return None;
-    };
+    let buffer = pointer_in(buffer)?;
+    let id = number_in(id)?;
+    let displayed = truth_in(displayed)?;
+    let notify = level_in(notify)?;
+    let highlight = truth_in(highlight)?;
     Some(LineMarks {
         buffer,
-        date,
-        date_printed,
+        id,
+        dates,
         displayed,
         notify,
         highlight,
@@ -119,8 +136,11 @@ fn row_in(alloc: Global, item: &HdaItem) -> Result<Option<LineRow>, NoMemory>
     };
     let [
         buffer,
+        id,
         date,
+        usec,
         printed,
+        usec_printed,
         displayed,
         notify,
         highlight,
@@ -131,7 +151,10 @@ fn row_in(alloc: Global, item: &HdaItem) -> Result<Option<LineRow>, NoMemory>
     else {
         return Ok(None);
     };
-    let Some(marks) = marks_in(buffer, date, printed, displayed, notify, highlight) else {
+    let Some(dates) = dates_in(date, usec, printed, usec_printed) else {
+        return Ok(None);
+    };
+    let Some(marks) = marks_in(buffer, id, dates, displayed, notify, highlight) else {
         return Ok(None);
     };
     let Some(texts) = line_texts_in(alloc, tags, prefix, message)? else {
