@@ -22,11 +22,7 @@ use Rattle.wc_keys.specs.declared.key.KeyList.TheVariants as l
 use Rattle.wc_keys.specs.Events.{buffer_path, line_path}
 use Rattle.wc_keys.proofs.ListTexts.{list_is_text, list_names_kinds, buffer_path_is_text, line_path_is_text}
 use Rattle.wc_events.specs.BufferObjects.{text, pair_of, table, about, told_objects, named_keys, placed_keys, opened_keys, renamed_keys, title_keys, vars_keys, named_values, placed_values, opened_values, renamed_values, title_values, vars_values, named_objects, placed_objects, opened_objects, renamed_objects, title_objects, vars_objects, flag_keys, flag_item, flag_items, flag_objects, is_flipped}
-use Rattle.wc_events.proofs.Formed.{ptr_formed, chr_formed, str_formed}
-
-pub int_formed : (n : ℤ) → value_is k.Int (o.Int n) ≡ true
-unfolding value_is simple_is out-Object out
-int_formed n = refl
+use Rattle.wc_events.proofs.Formed.{int_formed, ptr_formed, chr_formed, str_formed}
 
 pairs_simple : (vars : List Pair) → AreVars vars → list_all (λ pair. simple_is k.Str pair.0 && simple_is k.Str pair.1) (map pair_of vars) ≡ true
 unfolding simple_is out-Object out

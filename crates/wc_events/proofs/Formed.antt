@@ -23,6 +23,10 @@ pub ptr_formed : (n : ℕ) → value_is k.Ptr (o.Ptr n) ≡ true
 unfolding value_is simple_is out-Object out
 ptr_formed n = refl
 
+pub int_formed : (n : ℤ) → value_is k.Int (o.Int n) ≡ true
+unfolding value_is simple_is out-Object out
+int_formed n = refl
+
 tim_formed : (n : ℤ) → value_is k.Tim (o.Tim n) ≡ true
 unfolding value_is simple_is out-Object out
 tim_formed n = refl
@@ -46,7 +50,7 @@ tags_formed tags h = rw (← o.rolls-Arr k.Str (texts tags), out-roll-Object) (t
 
 values_formed : (buffer : Handle) (line : Line) → HasUtf8Texts line → values_are line_kinds (line_values buffer line) ≡ true
 unfolding line_values
-values_formed buffer line h = rw (ptr_formed, tim_formed, tim_formed, chr_formed, chr_formed, chr_formed, tags_formed line.tags h.tags, str_formed line.prefix h.prefix, str_formed line.message h.message) refl
+values_formed buffer line h = rw (ptr_formed, int_formed, tim_formed, int_formed, tim_formed, int_formed, chr_formed, chr_formed, chr_formed, tags_formed line.tags h.tags, str_formed line.prefix h.prefix, str_formed line.message h.message) refl
 
 hda_parts : (path : List ℕ) (items : List HdaItem) → hda_is (on_path path items) ≡ hda_parts_are (Some path) (Some line_keys) items
 unfolding hda_is

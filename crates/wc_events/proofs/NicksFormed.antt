@@ -28,8 +28,7 @@ use Rattle.wc_keys.proofs.ListTexts.{list_is_text, list_names_kinds, nick_path_i
 use Rattle.wc_events.specs.Dumps.{if_there}
 use Rattle.wc_events.specs.NickObjects.{nick_path, nick_keys, diff_keys, nick_values, nick_item, diff_item, root_and_rows}
 use Rattle.wc_events.specs.NickForms.{on_nick_path, all_nicks, nick_group, nick_kinds, diff_kinds, are_nicks, are_diffs}
-use Rattle.wc_events.proofs.Formed.{chr_formed, str_formed}
-use Rattle.wc_events.proofs.EventsFormed.{int_formed}
+use Rattle.wc_events.proofs.Formed.{int_formed, chr_formed, str_formed}
 
 -- ---- paths and keys
 

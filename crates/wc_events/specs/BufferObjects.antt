@@ -29,6 +29,7 @@ use Rattle.wc_keys.specs.declared.key.Key.TheVariants as key
 use Rattle.wc_keys.specs.Keys.{keys_in, list_text}
 use Rattle.wc_keys.specs.Events.{buffer_path, line_path}
 use Rattle.wc_events.specs.LineObjects.{truth, line_value, added_objects}
+pub use Rattle.wc_events.specs.LineObjects.{count}
 pub use Rattle.wc_keys.specs.Events.{id_of}
 
 -- ---- values
@@ -42,10 +43,6 @@ pair_of var = (text var.name, text var.value)
 -- the variables of a buffer, in order
 abbrev pub table : List Pair → Object
 table vars = o.Htb k.Str k.Str (map pair_of vars)
-
--- a number, which counts as the greatest that a message may hold where it is greater
-abbrev pub count : ℕ → ℤ
-count number = pos (if nat_le number (2 ^ 31 - 1) then number else 2 ^ 31 - 1)
 
 abbrev pub number_of : Notice → Object
 number_of notice = o.Int (count notice.number)

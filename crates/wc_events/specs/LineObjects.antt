@@ -24,6 +24,10 @@ use Rattle.wc_keys.specs.Events.{line_path, lines_path, id_of}
 abbrev pub truth : Bool → ℤ
 truth b = if b then pos 1 else pos 0
 
+-- a number, which counts as the greatest that a message may hold where it is greater
+abbrev pub count : ℕ → ℤ
+count number = pos (if nat_le number (2 ^ 31 - 1) then number else 2 ^ 31 - 1)
+
 -- a date, which counts as the greatest that a message may hold where it is greater
 abbrev pub moment : ℕ → ℤ
 moment date = pos (if nat_le date (2 ^ 63 - 1) then date else 2 ^ 63 - 1)
@@ -38,8 +42,11 @@ line_keys = list_text l.LineData
 -- the value of a line of a buffer under each key
 abbrev pub line_value : Handle → Line → Key → Option Object
 line_value buffer line key.Buffer = Some (o.Ptr buffer.0)
+line_value buffer line key.Id = Some (o.Int (count line.id))
 line_value buffer line key.Date = Some (o.Tim (moment line.date))
+line_value buffer line key.DateUsec = Some (o.Int (count line.usec))
 line_value buffer line key.DatePrinted = Some (o.Tim (moment line.date_printed))
+line_value buffer line key.DateUsecPrinted = Some (o.Int (count line.usec_printed))
 line_value buffer line key.Displayed = Some (o.Chr (truth line.displayed))
 line_value buffer line key.NotifyLevel = Some (o.Chr line.notify)
 line_value buffer line key.Highlight = Some (o.Chr (truth line.highlight))

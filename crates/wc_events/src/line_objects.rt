@@ -7,6 +7,7 @@ ghost use Rattle.wc_events.specs.LineObjects.{truth, moment, line_value};
 ghost use Rattle.wc_events.specs.LineObjects.{on_path, added_item, added_objects};
 
 use crate::lent_value::LentValue;
+use crate::values::count;
 use std::alloc::Global;
 use wc_keys::{Key, KeyList, LINE_PATH};
 use wc_lines::PackedLine;
@@ -33,8 +34,11 @@ pub fn line_value<'a>(buffer: Handle, line: &'a PackedLine, key: Key) -> Option<
 {
     let value = match key {
         Key::Buffer => LentValue::Ptr(buffer.0),
+        Key::Id => LentValue::Int(count(u64::from(line.id()))),
         Key::Date => LentValue::Tim(moment(line.date())),
+        Key::DateUsec => LentValue::Int(count(u64::from(line.usec()))),
         Key::DatePrinted => LentValue::Tim(moment(line.date_printed())),
+        Key::DateUsecPrinted => LentValue::Int(count(u64::from(line.usec_printed()))),
         Key::Displayed => LentValue::Chr(truth(line.displayed())),
         Key::NotifyLevel => LentValue::Chr(line.notify()),
         Key::Highlight => LentValue::Chr(truth(line.highlight())),

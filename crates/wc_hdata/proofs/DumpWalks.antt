@@ -52,7 +52,7 @@ abbrev pub buffer_keys : List Key
 buffer_keys = k.Number ∷ k.FullName ∷ k.ShortName ∷ k.Hidden ∷ k.Title ∷ k.LocalVariables ∷ []
 
 abbrev pub data_keys : List Key
-data_keys = k.Buffer ∷ k.Date ∷ k.DatePrinted ∷ k.Displayed ∷ k.NotifyLevel ∷ k.Highlight ∷ k.TagsArray ∷ k.Prefix ∷ k.Message ∷ []
+data_keys = k.Buffer ∷ k.Id ∷ k.Date ∷ k.DateUsec ∷ k.DatePrinted ∷ k.DateUsecPrinted ∷ k.Displayed ∷ k.NotifyLevel ∷ k.Highlight ∷ k.TagsArray ∷ k.Prefix ∷ k.Message ∷ []
 
 pub buffer_keys_asked : keys_asked buffers_path buffers_keys ≡ buffer_keys
 unfolding named_keys

@@ -135,8 +135,11 @@ keyed k.LastLine = record { whole = refl; kind = refl; small = refl }
 keyed k.LinesCount = record { whole = refl; kind = refl; small = refl }
 keyed k.Data = record { whole = refl; kind = refl; small = refl }
 keyed k.Buffer = record { whole = refl; kind = refl; small = refl }
+keyed k.Id = record { whole = refl; kind = refl; small = refl }
 keyed k.Date = record { whole = refl; kind = refl; small = refl }
+keyed k.DateUsec = record { whole = refl; kind = refl; small = refl }
 keyed k.DatePrinted = record { whole = refl; kind = refl; small = refl }
+keyed k.DateUsecPrinted = record { whole = refl; kind = refl; small = refl }
 keyed k.Displayed = record { whole = refl; kind = refl; small = refl }
 keyed k.NotifyLevel = record { whole = refl; kind = refl; small = refl }
 keyed k.Highlight = record { whole = refl; kind = refl; small = refl }
@@ -150,6 +153,13 @@ keyed k.Level = record { whole = refl; kind = refl; small = refl }
 keyed k.Name = record { whole = refl; kind = refl; small = refl }
 keyed k.Color = record { whole = refl; kind = refl; small = refl }
 keyed k.PrefixColor = record { whole = refl; kind = refl; small = refl }
+keyed k.Priority = record { whole = refl; kind = refl; small = refl }
+keyed k.Unread = record { whole = refl; kind = refl; small = refl }
+keyed k.Context = record { whole = refl; kind = refl; small = refl }
+keyed k.BaseWord = record { whole = refl; kind = refl; small = refl }
+keyed k.PosStart = record { whole = refl; kind = refl; small = refl }
+keyed k.PosEnd = record { whole = refl; kind = refl; small = refl }
+keyed k.List = record { whole = refl; kind = refl; small = refl }
 
 key_whole : (key : Key) → lacks 44 (key_text key) ≡ true
 key_whole key = (keyed key).whole

@@ -116,8 +116,11 @@ line_within _ held kept = tt
 
 data_within : (key : Key) (held : HeldLine) → IsSoundHeld held → OnSome ValueWithin (of_data key held)
 data_within k.Buffer held kept = value_ptr held.buffer.0 kept.buffer
+data_within k.Id held kept = value_int _ (count_within held.line.id)
 data_within k.Date held kept = value_tim _ (moment_within held.line.date)
+data_within k.DateUsec held kept = value_int _ (count_within held.line.usec)
 data_within k.DatePrinted held kept = value_tim _ (moment_within held.line.date_printed)
+data_within k.DateUsecPrinted held kept = value_int _ (count_within held.line.usec_printed)
 data_within k.Displayed held kept = value_chr _ (truth_within held.line.displayed)
 data_within k.NotifyLevel held kept = value_chr held.line.notify kept.line.notify
 data_within k.Highlight held kept = value_chr _ (truth_within held.line.highlight)

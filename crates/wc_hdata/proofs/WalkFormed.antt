@@ -154,7 +154,7 @@ lines_fit : (lines : List HeldLine) → AllByRecursion (λ key. IsValue key (of_
 lines_fit lines = (ptr_formed _, (ptr_formed _, (int_formed _, tt)))
 
 data_fits : (held : HeldLine) → HasUtf8Texts held.line → AllByRecursion (λ key. IsValue key (of_data key held)) (keys_at Elements.LineData)
-data_fits held h = (ptr_formed _, (tim_formed _, (tim_formed _, (chr_formed _, (chr_formed _, (chr_formed _, (tags_formed held.line.tags h.tags, (str_formed held.line.prefix h.prefix, (str_formed held.line.message h.message, tt)))))))))
+data_fits held h = (ptr_formed _, (int_formed _, (tim_formed _, (int_formed _, (tim_formed _, (int_formed _, (chr_formed _, (chr_formed _, (chr_formed _, (tags_formed held.line.tags h.tags, (str_formed held.line.prefix h.prefix, (str_formed held.line.message h.message, tt))))))))))))
 
 -- a buffer that is there, and a line whose texts are UTF-8
 abbrev pub IsTold : EntryGroups → Place → Type 0

@@ -112,4 +112,4 @@ long_buffers id world r = long_walk id world buffers_path buffers_keys r
 pub long_lines : (id : List ℕ) (world : World) (r : WalkRefused) → walk_refusal world lines_path ≡ None → refusal world lines_path lines_keys ≡ Some r
     → 2 ^ 31 - 1 < length (message_bytes id (walk_object world lines_path lines_keys ∷ []))
 long_lines id world r = long_walk id world lines_path lines_keys r
-    (let front : length (keys_text (keys_asked lines_path lines_keys)) ≡ 119 = ap (λ keys. length (keys_text keys)) data_keys_asked ∙ ap length data_keys_written in omega (arith, front))
+    (let front : length (keys_text (keys_asked lines_path lines_keys)) ≡ 162 = ap (λ keys. length (keys_text keys)) data_keys_asked ∙ ap length data_keys_written in omega (arith, front))

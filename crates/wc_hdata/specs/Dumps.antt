@@ -29,8 +29,8 @@ lines_path = record {
 }
 
 abbrev pub lines_keys : List ℕ
-lines_keys
-    = codes "buffer,date,date_printed,displayed,notify_level,highlight,tags_array,prefix,message"
+lines_keys = codes
+    "buffer,id,date,date_usec,date_printed,date_usec_printed,displayed,notify_level,highlight,tags_array,prefix,message"
 
 -- no buffer has more lines than its list may hold
 abbrev pub AreShort : World → Type 0
