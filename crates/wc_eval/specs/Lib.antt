@@ -24,3 +24,4 @@ pub mod Arguments
 pub mod Names
 pub mod Meaning
 pub mod LongValues
+pub mod Searched

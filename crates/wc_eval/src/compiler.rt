@@ -1,6 +1,7 @@
-ghost use Rattle.std.specs.Prelude.{◌≡◌, ◌≤◌, IfOk, IfErr};
+ghost use Rattle.std.specs.Prelude.{◌≡◌, ◌+◌, ◌^◌, ◌≤◌, IfOk, IfErr};
 ghost use Rattle.std.specs.Str.{IsUtf8};
 ghost use Rattle.regex.specs.Failures.{IsPattern};
+ghost use Rattle.regex.specs.Strings.{regex_size};
 ghost use Rattle.wc_eval.specs.Matching.{folding_config};
 ghost use Rattle.wc_eval.specs.Verdicts.{Rose};
 ghost use Rattle.wc_eval.specs.Built.{IsBuiltOf};
@@ -8,6 +9,9 @@ ghost use Rattle.wc_eval.specs.Built.{IsBuiltOf};
 use regex::{Error, Regex, RegexBuilder};
 use std::alloc::Global;
 use wc_text::Text;
+
+/// How many bytes the tables of a built pattern may take, about.
+const MOST_BYTES: usize = 1 << 20;
 
 /// Why a text was not built into a regular expression.
 #[derive(Clone, Copy, PartialEq, Eq, Debug)]
@@ -42,10 +46,12 @@ impl Compiler {
         self.others
     }
 
-    /// The regular expression that the pattern is, with case ignored.
+    /// The regular expression that the pattern is, with case ignored. One that is built takes about
+    /// a megabyte at most.
     pub fn compile(&mut self, alloc: Global, pattern: &Text) -> Result<Regex, CompileRefused>
         requires { IsUtf8 pattern.now }
         ensures built { IfOk result (IsBuiltOf pattern.now) }
+        ensures small { IfOk result (λ regex. regex_size regex ≤ 2 ^ 20 + 24) }
         ensures later { self.old.others ≤ self.new.others }
         ensures syntax { IfErr result (λ refused. refused ≡ CompileRefused.Syntax →
             IsPattern folding_config pattern.now → ⊥) }
@@ -57,7 +63,8 @@ impl Compiler {
         let Ok(text) = std::str::from_utf8(pattern.as_slice()) else {
             unreachable!()
         };
-        match RegexBuilder::new(text).case_insensitive(true).build(alloc) {
+        let builder = RegexBuilder::new(text).case_insensitive(true);
+        match builder.size_limit(MOST_BYTES).build(alloc) {
             Ok(regex) => Ok(regex),
             Err(Error::Syntax(_)) => Err(CompileRefused::Syntax),
             Err(Error::OutOfMemory) => Err(CompileRefused::NoMemory),
