@@ -5,7 +5,7 @@ nicks and buffers are plain lists that are gone through; what follows of a messa
 wc_irc_play shows them.
 """
 
-FORMATS = (0x02, 0x0F, 0x11, 0x16, 0x1D, 0x1F)
+FORMATS = (0x02, 0x04, 0x0F, 0x11, 0x16, 0x19, 0x1A, 0x1B, 0x1C, 0x1D, 0x1F)
 DIGITS = b"0123456789"
 
 
@@ -85,6 +85,7 @@ class Server:
         self.taken, self.registered, self.channels = 0, False, []
 
     modes, signs, types, case_map, lists = b"ov", [b"@", b"+"], [b"#", b"&"], "rfc1459", [b"beI", b"k", b"l", b""]
+    status = None
 
     def new_nick(self, nick):
         return self.is_nick(nick) and len(nick) <= 60
@@ -95,6 +96,13 @@ class Server:
     def is_channel(self, text):
         begins = any(text.startswith(kind) for kind in self.types) and not text.startswith(b":")
         return begins and len(text) <= 200 and bare(text, b",")
+
+    def aimed(self, target):
+        """The sign before a channel, and the channel, or else no sign and the target."""
+        signs = b"".join(self.signs) if self.status is None else self.status
+        if not self.is_channel(target) and target[:1] and target[:1] in signs and self.is_channel(target[1:]):
+            return target[:1], target[1:]
+        return b"", target
 
     def same(self, a, b):
         return folded(self.case_map, a) == folded(self.case_map, b)
@@ -139,6 +147,8 @@ class Server:
             self.case_map = value.decode()
         elif name == b"CHANMODES" and value.count(b",") == 3:
             self.lists = value.split(b",")
+        elif name == b"STATUSMSG":
+            self.status = value
 
     def kind(self, message):
         """The row of a message, by its command and what it has."""
@@ -424,8 +434,12 @@ class Scene:
             return self.line(self.home(), [b"irc_ctcp"], b"--", b"CTCP " + request + b" from " + m["nick"])
         if asked[1] and request:
             does, text = True, after
-        on_channel = s.is_channel(target)
-        buffer = self.found(target if on_channel else m["nick"])
+        status, whole = s.aimed(target)
+        size = 7 + sum(len(part) for part in (m["nick"], m["user"], m["host"], m["command"], target, text))
+        if not asked[1] and size >= 400 and text.startswith(b"\1ACTION "):
+            does, text = True, text[8:]
+        on_channel = s.is_channel(whole)
+        buffer = self.found(whole if on_channel else m["nick"])
         if buffer is None and on_channel:
             return
         if buffer is None:
@@ -433,7 +447,7 @@ class Scene:
         tags = [b"irc_privmsg"] + [b"irc_action"] * does + [b"notify_message" if on_channel else b"notify_private"]
         tags += [b"nick_" + m["nick"], b"host_" + m["user"] + b"@" + m["host"]]
         seat = s.seat(s.channel(target), m["nick"])
-        sign = s.sign(seat[1]) if seat and seat[1] else b""
+        sign = status or (s.sign(seat[1]) if seat and seat[1] else b"")
         called = calls(s.nick, plain(text))
         if does:
             self.line(buffer, tags, b" *", m["nick"] + b" " + text, called)
@@ -441,15 +455,17 @@ class Scene:
             self.line(buffer, tags, sign + m["nick"], text, called)
 
     def notice(self, m):
-        buffer = self.found(m["params"][0]) if self.server.is_channel(m["params"][0]) else self.home()
+        target = self.server.aimed(m["params"][0])[1]
+        buffer = self.found(target) if self.server.is_channel(target) else self.home()
         if buffer is not None:
-            self.line(buffer, self.tags(b"irc_notice", m, False), b"--", b"Notice(" + m["nick"] + b"): " + m["params"][1])
+            said = m["params"][1].replace(b"\1", b"")
+            self.line(buffer, self.tags(b"irc_notice", m, False), b"--", b"Notice(" + m["nick"] + b"): " + said)
 
     def ping(self, m):
         self.sent(b"PONG", m["params"][-1])
 
     def error(self, m):
-        self.line(self.home(), [b"irc_error"], b"=!=", m["params"][0])
+        self.line(self.home(), [b"irc_error"], b"=!=", m["params"][-1])
 
     # -- the link
 

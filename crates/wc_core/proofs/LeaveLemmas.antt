@@ -37,8 +37,8 @@ use Rattle.wc_irc.specs.OwnSpeech.{own_line, own_talk, acts_of_own, own_speech}
 use Rattle.wc_irc.specs.RenameActs.{come_again, nick_line, rename_on, rename_as, rename_of, renamed_buffer, rename_private, own_var, own_vars, nick_acts}
 use Rattle.wc_irc.specs.ServerActs.{acts_of_kind, kind_to, acts_of_server}
 use Rattle.wc_irc.specs.Servers.{ServerState, is_own, own_nick_from, next_nick, may_try}
-use Rattle.wc_irc.specs.SpeechActs.{Talk, Says, Does, Requests, talk_of, talk_line, talk_tags, on_private, on_target, acts_of_talk}
-use Rattle.wc_irc.specs.TalkActs.{on_found, sent, differs, told_nick, tell_nick, welcome_line, raised, welcome_acts, notice_line, notice_acts, has_var}
+use Rattle.wc_irc.specs.SpeechActs.{Talk, Says, Does, Requests, talk_of, talk_heard, talk_line, talk_tags, on_private, on_target, acts_of_talk}
+use Rattle.wc_irc.specs.TalkActs.{on_found, aimed, sent, differs, told_nick, tell_nick, welcome_line, raised, welcome_acts, notice_line, notice_acts, has_var}
 use Rattle.wc_irc.specs.Targets.{found, full_name}
 use Rattle.wc_core.specs.ServerSteps.{leave_in}
 use Rattle.wc_core.specs.ServerTyped.{acts_in}
@@ -167,7 +167,8 @@ talked : (groups : EntryGroups) (s : ServerState) (target nick : List ℕ) (does
 talked groups s target nick does text tags said =
     let line = talk_line s said nick does text tags in
     let there = found groups s nick in
-    either (is_channel s.features.chan_types target) (on_found (found groups s target) (λ buffer. line buffer ∷ [])) (on_private s nick line there) (where_found (found groups s target) (λ buffer. line buffer ∷ []) (λ buffer. one does buffer))
+    let heard = found groups s (aimed s target) in
+    either (is_channel s.features.chan_types (aimed s target)) (on_found heard (λ buffer. line buffer ∷ [])) (on_private s nick line there) (where_found heard (λ buffer. line buffer ∷ []) (λ buffer. one does buffer))
     (both (opened there (codes "private") s nick) (line (name_or there (full_name s.name nick)) ∷ []) (opening there (codes "private") s nick) (one does (name_or there (full_name s.name nick))))
   where
     one : (does : Bool) (buffer : List ℕ) → Stays (talk_line s said nick does text tags buffer ∷ [])
@@ -180,7 +181,9 @@ spoken groups s m (Does deed) = talked groups s (param 0 m) m.nick true deed (ta
 spoken groups s m (Requests word) = refl
 
 noticed : (groups : EntryGroups) (s : ServerState) (m : Message) → Stays (notice_acts groups s m)
-noticed groups s m = either (is_channel s.features.chan_types (param 0 m)) (on_found (found groups s (param 0 m)) (λ buffer. notice_line m buffer ∷ [])) _ (where_found (found groups s (param 0 m)) (λ buffer. notice_line m buffer ∷ []) (λ buffer. refl)) refl
+noticed groups s m =
+    let heard = found groups s (aimed s (param 0 m)) in
+    either (is_channel s.features.chan_types (aimed s (param 0 m))) (on_found heard (λ buffer. notice_line m buffer ∷ [])) _ (where_found heard (λ buffer. notice_line m buffer ∷ []) (λ buffer. refl)) refl
 
 -- what a server says asks for its loss where its nicks are taken, and else not
 abbrev pub MayLeave : Cause → Option Cause → Type 0
@@ -205,7 +208,7 @@ kind-leaves groups s m kind.TopicReply = inl (where_found (found groups s (param
 kind-leaves groups s m kind.Names = inl (named groups s m)
 kind-leaves groups s m kind.NamesEnd = inl (where_found (found groups s (param 1 m)) _ (λ buffer. refl))
 kind-leaves groups s m kind.ModeReply = inl (where_found (found groups s (param 1 m)) _ (λ buffer. refl))
-kind-leaves groups s m kind.Privmsg = inl (spoken groups s m (talk_of (param 1 m)))
+kind-leaves groups s m kind.Privmsg = inl (spoken groups s m (talk_heard m))
 kind-leaves groups s m kind.Notice = inl (noticed groups s m)
 kind-leaves groups s m kind.Ping = inl refl
 kind-leaves groups s m kind.Error = inl refl
@@ -243,7 +246,8 @@ own_stays : (groups : EntryGroups) (s : ServerState) (target : List ℕ) (does :
 own_stays groups s target does text =
     let line = own_line s target does text in
     let there = found groups s target in
-    either (is_channel s.features.chan_types target) (on_found there (λ buffer. line buffer ∷ [])) (on_private s target line there) (where_found there (λ buffer. line buffer ∷ []) (λ buffer. one does buffer))
+    let heard = found groups s (aimed s target) in
+    either (is_channel s.features.chan_types (aimed s target)) (on_found heard (λ buffer. line buffer ∷ [])) (on_private s target line there) (where_found heard (λ buffer. line buffer ∷ []) (λ buffer. one does buffer))
     (both (opened there (codes "private") s target) (line (name_or there (full_name s.name target)) ∷ []) (opening there (codes "private") s target) (one does (name_or there (full_name s.name target))))
   where
     one : (does : Bool) (buffer : List ℕ) → Stays (own_line s target does text buffer ∷ [])

@@ -18,7 +18,7 @@ use Rattle.wc_irc.specs.NewBuffers.{opened}
 use Rattle.wc_irc.specs.OwnSpeech.{own_line, own_talk, acts_of_own, own_speech}
 use Rattle.wc_irc.specs.Servers.{ServerState}
 use Rattle.wc_irc.specs.SpeechActs.{Talk, Says, Does, Requests, talk_of, on_private}
-use Rattle.wc_irc.specs.TalkActs.{on_found}
+use Rattle.wc_irc.specs.TalkActs.{on_found, aimed}
 use Rattle.wc_irc.specs.Targets.{found, full_name}
 use Rattle.wc_irc_texts.specs.Texts.{in_one_line}
 use Rattle.wc_irc_words.specs.Typed.{ServerCommand, asked_of}
@@ -52,9 +52,9 @@ private_line None s target does text = (tt, (said_line s target does text (full_
 private_line (Some buffer) s target does text = (said_line s target does text buffer, tt)
 
 talk_line : (groups : EntryGroups) (s : ServerState) (target : List ℕ) (does : Bool) (text : List ℕ) → All (own_talk groups s target does text)
-talk_line groups s target does text = by (is_channel s.features.chan_types target) where
-  by : (t : Bool) → All (cond t (on_found (found groups s target) (λ buffer. own_line s target does text buffer ∷ [])) (on_private s target (own_line s target does text) (found groups s target)))
-  by true = found_line (found groups s target) s target does text
+talk_line groups s target does text = by (is_channel s.features.chan_types (aimed s target)) where
+  by : (t : Bool) → All (cond t (on_found (found groups s (aimed s target)) (λ buffer. own_line s target does text buffer ∷ [])) (on_private s target (own_line s target does text) (found groups s target)))
+  by true = found_line (found groups s (aimed s target)) s target does text
   by false = private_line (found groups s target) s target does text
 
 own_lines : (groups : EntryGroups) (s : ServerState) (target : List ℕ) (talk : Talk) → All (acts_of_own groups s target talk)

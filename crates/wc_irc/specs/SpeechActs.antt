@@ -1,5 +1,6 @@
 -- What follows of what is said: PRIVMSG, and ACTION and other requests between clients (CTCP) in it.
-use Rattle.std.specs.Prelude.{ℕ, Bool, true, false, ◌==◌, List, [], ◌∷◌, ◌++◌, codes, bytes_eq}
+use Rattle.std.specs.Prelude.{ℕ, Bool, true, false, ◌==◌, ◌+◌, nat_le, List, [], ◌∷◌, ◌++◌, codes}
+use Rattle.std.specs.Prelude.{bytes_eq, length, drop}
 use Rattle.std.specs.Prelude.{Option, Some, None, option_map, option_and_then, if◌then◌else◌}
 use Rattle.wc_text.specs.Splits.{before, text_after}
 use Rattle.wc_text.specs.Words.{is_filled}
@@ -14,14 +15,15 @@ use Rattle.wc_irc.specs.ChannelStates.{channel_at}
 use Rattle.wc_irc_texts.specs.Groups.{sign_at}
 use Rattle.wc_irc.specs.Lines.{said, nick_tag, host_tag}
 use Rattle.wc_irc_texts.specs.ModeBits.{highest}
-use Rattle.wc_irc_texts.specs.Names.{is_channel}
+use Rattle.wc_irc_texts.specs.Names.{is_channel, begins_with_text}
 use Rattle.wc_irc.specs.NewBuffers.{opened, name_or}
 use Rattle.wc_irc_texts.specs.Rows.{param}
 use Rattle.wc_irc_nicks.specs.Seats.{seat_of}
 use Rattle.wc_irc.specs.Servers.{ServerState}
 use Rattle.wc_irc_texts.specs.Speech.{calls_nick}
-use Rattle.wc_irc.specs.TalkActs.{on_server, on_found}
+use Rattle.wc_irc.specs.TalkActs.{on_server, on_found, aimed}
 use Rattle.wc_irc.specs.Targets.{found, full_name}
+use Rattle.wc_irc_texts.specs.Statuses.{status_sign}
 use Rattle.wc_irc_texts.specs.Texts.{plain}
 
 -- ---- requests, computed: what is between a first and a last byte 01, as a word and what comes
@@ -58,6 +60,30 @@ talk_in text (Some parts) = if bytes_eq parts.0 (codes "ACTION") then Does parts
 abbrev pub talk_of : List ℕ → Talk
 talk_of text = talk_in text (request_of text)
 
+-- ---- what is heard: servers cut what is too long, and with it the byte 01 at its end
+
+-- how long the line `:N!U@H PRIVMSG T :text` of a message is
+abbrev pub said_length : Message → ℕ
+said_length m = length m.nick + length m.user + length m.host + length m.command
+    + length (param 0 m) + length (param 1 m) + 7
+
+abbrev pub deed_front : List ℕ
+deed_front = 1 ∷ codes "ACTION "
+
+-- what is done, also without its end
+abbrev pub open_deed : List ℕ → Talk
+open_deed text = if begins_with_text text deed_front then Does (drop 8 text) else Says text
+
+-- a line of 400 bytes or more may have been cut
+abbrev pub heard_in : Bool → Talk → Talk
+heard_in true (Says text) = open_deed text
+heard_in true (Does deed) = Does deed
+heard_in true (Requests word) = Requests word
+heard_in false talk = talk
+
+abbrev pub talk_heard : Message → Talk
+talk_heard m = heard_in (nat_le 400 (said_length m)) (talk_of (param 1 m))
+
 -- ---- the nick as the line of a channel shows it: after its sign, where it has one
 
 abbrev pub seat_in : List ℕ → Option Joined → Option Seat
@@ -72,10 +98,16 @@ abbrev pub sign_of : Prefixes → Option Seat → List ℕ
 sign_of prefixes None = []
 sign_of prefixes (Some seat) = without_space (sign_at prefixes (highest seat.modes.0))
 
--- a target that is no joined channel has no nicks
+-- one sign in the place of another
+abbrev pub sign_or : List ℕ → List ℕ → List ℕ
+sign_or [] sign = sign
+sign_or (b ∷ status) sign = b ∷ status
+
+-- a target that is no joined channel has no nicks; where it tells some of them by a sign, this is
+-- shown
 abbrev pub shown_nick : ServerState → List ℕ → List ℕ → List ℕ
-shown_nick s target nick = sign_of s.features.prefixes
-    (seat_in nick (channel_at s target)) ++ nick
+shown_nick s target nick = sign_or (status_sign s.features target)
+    (sign_of s.features.prefixes (seat_in nick (channel_at s target))) ++ nick
 
 -- ---- the line of what one says or does on a target; it calls the user where it has the own nick
 
@@ -86,7 +118,8 @@ talk_line s target nick does text tags buffer =
     else said buffer tags (shown_nick s target nick) text (calls_nick s.nick (plain text))
 
 abbrev pub notify_tag : ServerState → List ℕ → List ℕ
-notify_tag s target = if is_channel s.features.chan_types target then codes "notify_message"
+notify_tag s target = if is_channel s.features.chan_types (aimed s target)
+    then codes "notify_message"
     else codes "notify_private"
 
 abbrev pub talk_tags : ServerState → Message → Bool → List (List ℕ)
@@ -105,8 +138,8 @@ on_private s nick line there = opened there (codes "private") s nick
 
 abbrev pub on_target : EntryGroups → ServerState → List ℕ → List ℕ → (List ℕ → Act) → List Act
 on_target groups s target nick line =
-    if is_channel s.features.chan_types target
-    then on_found (found groups s target) (λ buffer. line buffer ∷ [])
+    if is_channel s.features.chan_types (aimed s target)
+    then on_found (found groups s (aimed s target)) (λ buffer. line buffer ∷ [])
     else on_private s nick line (found groups s nick)
 
 abbrev pub talk_acts : EntryGroups → ServerState → Message → Bool → List ℕ → List Act
@@ -120,4 +153,4 @@ acts_of_talk groups s m (Requests word) = on_server s (codes "irc_ctcp") (codes 
     (codes "CTCP " ++ word ++ codes " from " ++ m.nick) ∷ []
 
 abbrev pub privmsg_acts : EntryGroups → ServerState → Message → List Act
-privmsg_acts groups s m = acts_of_talk groups s m (talk_of (param 1 m))
+privmsg_acts groups s m = acts_of_talk groups s m (talk_heard m)

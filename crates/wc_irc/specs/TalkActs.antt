@@ -18,11 +18,16 @@ use Rattle.wc_irc_texts.specs.Names.{is_channel}
 use Rattle.wc_irc_texts.specs.Rows.{param, last_param, params_from}
 use Rattle.wc_irc.specs.Servers.{ServerState, own_nick_from, next_nick, may_try}
 use Rattle.wc_irc.specs.Targets.{server_buffer, found}
-use Rattle.wc_irc_texts.specs.Texts.{spaced, in_one_line}
+use Rattle.wc_irc_texts.specs.Statuses.{whole_channel}
+use Rattle.wc_irc_texts.specs.Texts.{spaced, in_one_line, unquoted}
 
 -- a line of the server's own buffer
 abbrev pub on_server : ServerState → List ℕ → List ℕ → List ℕ → Act
 on_server s tag prefix text = printed (server_buffer s.name) (tag ∷ []) prefix text
+
+-- the channel that is spoken to, of which a sign before it tells some nicks, or else the target
+abbrev pub aimed : ServerState → List ℕ → List ℕ
+aimed s target = whole_channel s.features target
 
 -- what is done on the buffer of a channel or a nick, where there is one
 abbrev pub on_found : Option (List ℕ) → (List ℕ → List Act) → List Act
@@ -39,7 +44,7 @@ abbrev pub ping_acts : Message → List Act
 ping_acts m = sent (codes "PONG") (last_param m) ∷ []
 
 abbrev pub error_acts : ServerState → Message → List Act
-error_acts s m = on_server s (codes "irc_error") (codes "=!=") (param 0 m) ∷ []
+error_acts s m = on_server s (codes "irc_error") (codes "=!=") (last_param m) ∷ []
 
 abbrev pub other_acts : ServerState → Message → List Act
 other_acts s m = on_server s (codes "irc_" ++ map to_ascii_lowercase m.command) (codes "--")
@@ -84,13 +89,14 @@ welcome_acts groups s m = if s.is_registered then welcome_line s m ∷ []
     ∷ raised (codes "irc_server_connected") s
     ∷ map (λ line. act.Send line) (autojoin_lines s.autojoin)
 
--- ---- NOTICE: on the channel, where it has a buffer, and else on the server's own buffer
+-- ---- NOTICE: on the channel, where it has a buffer, and else on the server's own buffer; a reply
+-- between clients is printed without the bytes 01 around it
 
 abbrev pub notice_line : Message → List ℕ → Act
 notice_line m buffer = printed buffer (nick_tags (codes "irc_notice") m) (codes "--")
-    (codes "Notice(" ++ m.nick ++ codes "): " ++ param 1 m)
+    (codes "Notice(" ++ m.nick ++ codes "): " ++ unquoted (param 1 m))
 
 abbrev pub notice_acts : EntryGroups → ServerState → Message → List Act
-notice_acts groups s m = if is_channel s.features.chan_types (param 0 m)
-    then on_found (found groups s (param 0 m)) (λ buffer. notice_line m buffer ∷ [])
+notice_acts groups s m = if is_channel s.features.chan_types (aimed s (param 0 m))
+    then on_found (found groups s (aimed s (param 0 m))) (λ buffer. notice_line m buffer ∷ [])
     else notice_line m (server_buffer s.name) ∷ []

@@ -4,7 +4,7 @@ ghost use Rattle.wc_irc.specs.OwnSpeech.{own_tags, own_line, own_talk, acts_of_o
 ghost use Rattle.wc_irc.specs.ServersSeen.{seen};
 ghost use Rattle.wc_irc.specs.SpeechActs.{on_private, talk_of};
 ghost use Rattle.wc_irc.specs.SpeechSeen.{talk_seen};
-ghost use Rattle.wc_irc.specs.TalkActs.{on_found};
+ghost use Rattle.wc_irc.specs.TalkActs.{on_found, aimed};
 ghost use Rattle.wc_irc.specs.Targets.{found};
 
 use crate::act::Act;
@@ -13,6 +13,7 @@ use crate::new_buffers::put_opened;
 use crate::speech_acts::{Voice, talk_line};
 use crate::state::State;
 use crate::talk::{Talk, talk_of};
+use crate::talk_acts::aimed;
 use crate::targets::found;
 use std::alloc::Global;
 use wc_buffers::Buffers;
@@ -62,11 +63,11 @@ fn put_on_channel(
     own: Own<'_>,
 ) -> Result<(), NoMemory>
     ensures { OnOk result (acts.new ≡ acts.old
-        ++ on_found (found buffers.now (seen state.now) own.entry.target.now)
-        (λ buffer. own_line (seen state.now) own.entry.target.now own.entry.does
+        ++ on_found (found buffers.now (seen state.now)
+        (aimed (seen state.now) own.entry.target.now)) (λ buffer. own_line (seen state.now) own.entry.target.now own.entry.does
         own.entry.text.now buffer ∷ [])) }
 {
-    match found(alloc, buffers, state, own.target)? {
+    match found(alloc, buffers, state, aimed(state, own.target))? {
         Some(buffer) => acts.push(own_line(alloc, state, own, buffer.as_slice())?),
         None => Ok(()),
     }
@@ -101,7 +102,10 @@ fn put_own_talk(
     ensures { OnOk result (acts.new ≡ acts.old ++ own_talk buffers.now (seen state.now)
         own.entry.target.now own.entry.does own.entry.text.now) }
 {
-    if is_channel(state.features.chan_types.as_slice(), own.target) {
+    if is_channel(
+        state.features.chan_types.as_slice(),
+        aimed(state, own.target),
+    ) {
         put_on_channel(acts, alloc, buffers, state, own)
     } else {
         put_on_private(acts, alloc, buffers, state, own)

@@ -8,11 +8,12 @@ ghost use Rattle.wc_irc.specs.ChannelStates.{channel_at};
 ghost use Rattle.wc_irc.specs.Lines.{said, nick_tag, host_tag};
 ghost use Rattle.wc_irc_texts.specs.Rows.{param};
 ghost use Rattle.wc_irc_texts.specs.Speech.{calls_nick};
-ghost use Rattle.wc_irc.specs.SpeechActs.{without_space, seat_in, sign_of, shown_nick, talk_line};
+ghost use Rattle.wc_irc.specs.SpeechActs.{without_space, seat_in, sign_of, sign_or, shown_nick, talk_line};
 ghost use Rattle.wc_irc.specs.SpeechActs.{notify_tag, talk_tags, on_private, talk_acts};
 ghost use Rattle.wc_irc.specs.SpeechActs.{privmsg_acts};
-ghost use Rattle.wc_irc.specs.TalkActs.{on_server, on_found};
+ghost use Rattle.wc_irc.specs.TalkActs.{on_server, on_found, aimed};
 ghost use Rattle.wc_irc.specs.Targets.{found};
+ghost use Rattle.wc_irc_texts.specs.Statuses.{status_sign};
 ghost use Rattle.wc_irc_texts.specs.Texts.{plain};
 
 use crate::act::Act;
@@ -20,12 +21,12 @@ use crate::channel_acts::channel_at;
 use crate::lines::{one_tag, put_host_tag, put_nick_tag, put_tag, said};
 use crate::new_buffers::put_opened;
 use crate::state::State;
-use crate::talk::{Talk, talk_of};
-use crate::talk_acts::put_on_server;
+use crate::talk::{Talk, talk_heard};
+use crate::talk_acts::{aimed, put_on_server};
 use crate::targets::found;
 use std::alloc::Global;
 use wc_buffers::Buffers;
-use wc_irc_texts::{ModeSet, calls_nick, is_channel, joined, param, plain, sign_at};
+use wc_irc_texts::{ModeSet, calls_nick, is_channel, joined, param, plain, sign_at, status_sign};
 use wc_ircmsg::{Message, Prefixes};
 use wc_text::{Items, NoMemory, Text};
 
@@ -59,11 +60,34 @@ fn sign_in<'a>(state: &'a State, target: &[u8], nick: &[u8]) -> &'a [u8]
     }
 }
 
+/// One sign in the place of another.
+fn sign_or<'a>(status: &'a [u8], sign: &'a [u8]) -> &'a [u8]
+    ensures { result.now ≡ sign_or status.now sign.now }
+{
+    match status {
+        [] => sign,
+        _ => status,
+    }
+}
+
+/// The sign that is shown before a nick: that of the target, where it tells some nicks by one, and
+/// else that of the nick.
+fn shown_sign<'a>(state: &'a State, target: &'a [u8], nick: &[u8]) -> &'a [u8]
+    ensures { result.now ≡ sign_or (status_sign state.now.features target.now)
+        (sign_of state.now.features.prefixes
+        (seat_in nick.now (channel_at (seen state.now) target.now))) }
+{
+    sign_or(
+        status_sign(&state.features, target),
+        sign_in(state, target, nick),
+    )
+}
+
 /// A nick as the line of a channel shows it.
 fn shown_nick(alloc: Global, state: &State, target: &[u8], nick: &[u8]) -> Result<Text, NoMemory>
     ensures { IfOk result (λ shown. shown ≡ shown_nick (seen state.now) target.now nick.now) }
 {
-    joined(alloc, &[sign_in(state, target, nick), nick])
+    joined(alloc, &[shown_sign(state, target, nick), nick])
 }
 
 /// Whether a text calls the user by name, its formatting bytes aside.
@@ -142,7 +166,7 @@ pub(crate) fn talk_line(
 fn notify_tag(state: &State, target: &[u8]) -> &'static [u8]
     ensures { result.now ≡ notify_tag (seen state.now) target.now }
 {
-    if is_channel(state.features.chan_types.as_slice(), target) {
+    if is_channel(state.features.chan_types.as_slice(), aimed(state, target)) {
         b"notify_message"
     } else {
         b"notify_private"
@@ -219,12 +243,12 @@ fn put_on_channel(
     voice: Voice<'_>,
 ) -> Result<(), NoMemory>
     ensures { OnOk result (acts.new ≡ acts.old
-        ++ on_found (found buffers.now (seen state.now) voice.entry.target.now)
-        (λ buffer. talk_line (seen state.now) voice.entry.target.now voice.entry.nick.now
+        ++ on_found (found buffers.now (seen state.now)
+        (aimed (seen state.now) voice.entry.target.now)) (λ buffer. talk_line (seen state.now) voice.entry.target.now voice.entry.nick.now
         voice.entry.does voice.entry.text.now
         (talk_tags (seen state.now) m.now voice.entry.does) buffer ∷ [])) }
 {
-    match found(alloc, buffers, state, voice.target)? {
+    match found(alloc, buffers, state, aimed(state, voice.target))? {
         Some(buffer) => put_talk_line(acts, alloc, state, m, voice, buffer.as_slice()),
         None => Ok(()),
     }
@@ -270,7 +294,10 @@ fn put_talk(
         does,
         text,
     };
-    if is_channel(state.features.chan_types.as_slice(), voice.target) {
+    if is_channel(
+        state.features.chan_types.as_slice(),
+        aimed(state, voice.target),
+    ) {
         put_on_channel(acts, alloc, buffers, state, m, voice)
     } else {
         put_on_private(acts, alloc, buffers, state, m, voice)
@@ -308,7 +335,7 @@ pub(crate) fn put_privmsg(
     requires { MessageIsUtf8 m.now }
     ensures { OnOk result (acts.new ≡ acts.old ++ privmsg_acts buffers.now (seen state.now) m.now) }
 {
-    match talk_of(param(m, 1)) {
+    match talk_heard(m) {
         Talk::Says(text) => put_talk(acts, alloc, buffers, state, m, false, text),
         Talk::Does(deed) => put_talk(acts, alloc, buffers, state, m, true, deed),
         Talk::Requests(word) => put_request(acts, alloc, state, m, word),

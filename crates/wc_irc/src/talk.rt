@@ -1,8 +1,10 @@
-ghost use Rattle.std.specs.Prelude.{◌≡◌, Some, ℕ, List};
-ghost use Rattle.wc_irc.specs.SpeechActs.{talk_in, talk_of};
+ghost use Rattle.std.specs.Prelude.{◌≡◌, ◌-◌, Some, ℕ, List, length, nat_le};
+ghost use Rattle.wc_irc.specs.SpeechActs.{talk_in, talk_of, said_length, open_deed, heard_in};
+ghost use Rattle.wc_irc.specs.SpeechActs.{talk_heard};
 ghost use Rattle.wc_irc.specs.SpeechSeen.{talk_seen};
 
-use wc_ircmsg::read_ctcp;
+use wc_irc_texts::param;
+use wc_ircmsg::{Message, read_ctcp};
 
 /// What a text between clients is.
 #[derive(Clone, Copy)]
@@ -33,5 +35,53 @@ pub(crate) fn talk_of(text: &[u8]) -> Talk<'_>
     match read_ctcp(text) {
         Some((word, rest)) => requested(word, rest),
         None => Talk::Says(text),
+    }
+}
+
+/// The bytes before a deed.
+const DEED: &[u8] = b"\x01ACTION ";
+
+/// How long a line may be that no server cuts.
+const SHORT: usize = 400;
+
+/// How many bytes there are in it beside its parts.
+const BETWEEN: usize = 7;
+
+fn room_after(room: usize, part: &[u8]) -> usize
+    ensures { result ≡ room - length part.now }
+{
+    room.saturating_sub(part.len())
+}
+
+/// Whether a line of these parts, with a source in front, may have been cut by a server.
+fn is_long(m: &Message) -> bool
+    ensures { result ≡ nat_le 400 (said_length m.now) }
+{
+    let room = room_after(SHORT - BETWEEN, m.nick.as_slice());
+    let room = room_after(room, m.user.as_slice());
+    let room = room_after(room, m.host.as_slice());
+    let room = room_after(room, m.command.as_slice());
+    let room = room_after(room, param(m, 0));
+    room_after(room, param(m, 1)) == 0
+}
+
+/// What is done, also without its end.
+fn open_deed(text: &[u8]) -> Talk<'_>
+    ensures { talk_seen result ≡ open_deed text.now }
+{
+    match text.strip_prefix(DEED) {
+        Some(deed) => Talk::Does(deed),
+        None => Talk::Says(text),
+    }
+}
+
+/// What a message says. Where its line is so long that it may have been cut, something that is done
+/// may lack its end.
+pub(crate) fn talk_heard(m: &Message) -> Talk<'_>
+    ensures { talk_seen result ≡ talk_heard m.now }
+{
+    match talk_of(param(m, 1)) {
+        Talk::Says(text) if is_long(m) => open_deed(text),
+        talk => talk,
     }
 }

@@ -8,10 +8,10 @@ ghost use Rattle.wc_irc.specs.ServersSeen.{seen};
 ghost use Rattle.wc_irc.specs.TalkActs.{on_server, sent, ping_acts, error_acts, other_acts};
 ghost use Rattle.wc_irc.specs.TalkActs.{taken_acts, has_value, told_nick, tell_nick, raised};
 ghost use Rattle.wc_irc.specs.TalkActs.{welcome_line, welcome_acts, notice_line, notice_acts};
-ghost use Rattle.wc_irc.specs.TalkActs.{on_found};
+ghost use Rattle.wc_irc.specs.TalkActs.{on_found, aimed};
 ghost use Rattle.wc_irc.specs.Targets.{server_buffer, found};
 ghost use Rattle.wc_irc.specs.TargetsSeen.{acts_in, acts_at};
-ghost use Rattle.wc_irc_texts.specs.Texts.{in_one_line};
+ghost use Rattle.wc_irc_texts.specs.Texts.{in_one_line, unquoted};
 ghost use Rattle.wc_irc.specs.declared.act.Act.TheVariants as act;
 ghost use Rattle.wc_ircmsg.specs.Commands.{is_command};
 ghost use Rattle.wc_model.specs.declared.change.What.TheVariants as what;
@@ -23,7 +23,8 @@ use crate::state::State;
 use crate::targets::{found, server_buffer};
 use std::alloc::Global;
 use wc_buffers::{BufferRow, Buffers, Vars};
-use wc_irc_texts::{in_one_line, is_channel, joined, last_param, param, params_from, spaced};
+use wc_irc_texts::{in_one_line, is_channel, joined, last_param, param, params_from, spaced, unquoted};
+use wc_irc_texts::whole_channel;
 use wc_ircmsg::Message;
 use wc_model::What;
 use wc_text::{Cause, Handle, Items, NoMemory, Pair, Text};
@@ -43,6 +44,13 @@ pub(crate) fn put_on_server(
     let buffer = server_buffer(alloc, state.name.as_slice())?;
     let tags = one_tag(alloc, tag)?;
     acts.push(printed(alloc, buffer.as_slice(), tags, prefix, text)?)
+}
+
+/// The channel that is spoken to, of which a sign before it tells some nicks, or else the target.
+pub(crate) fn aimed<'a>(state: &State, target: &'a [u8]) -> &'a [u8]
+    ensures { result.now ≡ aimed (seen state.now) target.now }
+{
+    whole_channel(&state.features, target)
 }
 
 /// One text as parameters, without what would end a line.
@@ -79,7 +87,7 @@ pub(crate) fn put_error(
 ) -> Result<(), NoMemory>
     ensures { OnOk result (acts.new ≡ acts.old ++ error_acts (seen state.now) m.now) }
 {
-    put_on_server(acts, alloc, state, b"irc_error", b"=!=", param(m, 0))
+    put_on_server(acts, alloc, state, b"irc_error", b"=!=", last_param(m))
 }
 
 /// `irc_` and a command in lower case.
@@ -298,11 +306,19 @@ pub(crate) fn put_welcome(
 
 // ---- NOTICE
 
+fn noticed(alloc: Global, nick: &[u8], said: &[u8]) -> Result<Text, NoMemory>
+    ensures { IfOk result (λ text. text
+        ≡ codes "Notice(" ++ nick.now ++ codes "): " ++ said.now) }
+{
+    joined(alloc, &[b"Notice(", nick, b"): ", said])
+}
+
 fn notice_text(alloc: Global, m: &Message) -> Result<Text, NoMemory>
     ensures { IfOk result (λ text. text
-        ≡ codes "Notice(" ++ m.now.nick ++ codes "): " ++ param 1 m.now) }
+        ≡ codes "Notice(" ++ m.now.nick ++ codes "): " ++ unquoted (param 1 m.now)) }
 {
-    joined(alloc, &[b"Notice(", m.nick.as_slice(), b"): ", param(m, 1)])
+    let said = unquoted(alloc, param(m, 1))?;
+    noticed(alloc, m.nick.as_slice(), said.as_slice())
 }
 
 fn put_notice_line(
@@ -326,10 +342,10 @@ fn put_channel_notice(
     m: &Message,
 ) -> Result<(), NoMemory>
     ensures { OnOk result (acts.new ≡ acts.old
-        ++ on_found (found buffers.now (seen state.now) (param 0 m.now))
+        ++ on_found (found buffers.now (seen state.now) (aimed (seen state.now) (param 0 m.now)))
         (λ buffer. notice_line m.now buffer ∷ [])) }
 {
-    match found(alloc, buffers, state, param(m, 0))? {
+    match found(alloc, buffers, state, aimed(state, param(m, 0)))? {
         Some(buffer) => put_notice_line(acts, alloc, m, buffer.as_slice()),
         None => Ok(()),
     }
@@ -359,7 +375,10 @@ pub(crate) fn put_notice(
 ) -> Result<(), NoMemory>
     ensures { OnOk result (acts.new ≡ acts.old ++ notice_acts buffers.now (seen state.now) m.now) }
 {
-    if is_channel(state.features.chan_types.as_slice(), param(m, 0)) {
+    if is_channel(
+        state.features.chan_types.as_slice(),
+        aimed(state, param(m, 0)),
+    ) {
         put_channel_notice(acts, alloc, buffers, state, m)
     } else {
         put_server_notice(acts, alloc, state, m)

@@ -64,6 +64,14 @@ pub fn put_features(out: &mut Sheet, features: &Features) {
     out.put_named(" lists", features.chan_modes.as_slice());
     out.put(" names ");
     out.put(case_map_name(features.case_map));
+    put_status(out, &features.status_msg);
+}
+
+fn put_status(out: &mut Sheet, signs: &Option<Text>) {
+    match signs {
+        Some(signs) => out.put_named(" status", signs.as_slice()),
+        None => {}
+    }
 }
 
 /// What is told after a 005 with these parameters.

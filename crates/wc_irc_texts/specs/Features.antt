@@ -16,6 +16,7 @@ default_features = record {
   chan_types = codes "#&";
   case_map = maps.Rfc1459;
   chan_modes = codes "beI,k,l,";
+  status_msg = None;
 }
 
 -- the parameters between the first and the last
@@ -51,13 +52,17 @@ with_case_map f (Some case_map) = record f { case_map = case_map }
 abbrev pub with_chan_modes : Features → List ℕ → Features
 with_chan_modes f value = if are_mode_lists value then record f { chan_modes = value } else f
 
+abbrev pub with_status_msg : Features → List ℕ → Features
+with_status_msg f value = record f { status_msg = Some value }
+
 -- a value of another form than its token has changes nothing
 abbrev pub with_value : Features → List ℕ → List ℕ → Features
 with_value f name value =
     if bytes_eq name (codes "PREFIX") then with_prefixes f (read_prefixes value) else (
     if bytes_eq name (codes "CHANTYPES") then record f { chan_types = value } else (
     if bytes_eq name (codes "CASEMAPPING") then with_case_map f (read_case_map value) else (
-    if bytes_eq name (codes "CHANMODES") then with_chan_modes f value else f)))
+    if bytes_eq name (codes "CHANMODES") then with_chan_modes f value else (
+    if bytes_eq name (codes "STATUSMSG") then with_status_msg f value else f))))
 
 abbrev pub with_text : Features → List ℕ → Option (List ℕ) → Features
 with_text f name None = f

@@ -9,5 +9,6 @@ pub mod Names
 pub mod Pieces
 pub mod Rows
 pub mod Speech
+pub mod Statuses
 pub mod Texts
 pub mod TextsSeen

@@ -34,11 +34,17 @@ spaced (text ∷ next ∷ texts) = text ++ 32 ∷ spaced (next ∷ texts)
 abbrev pub in_one_line : List ℕ → List ℕ
 in_one_line text = filter (λ b. not (ends_lines b)) text
 
+-- a reply between clients without the bytes 01 that stand around it
+abbrev pub unquoted : List ℕ → List ℕ
+unquoted text = filter (λ b. not (b == 1)) text
+
 -- ---- formatting bytes
 
--- bold, reset, reverse, italic, strike and underline
+-- bold, a colour in hexadecimal, reset, monospace, reverse, italic, strike and underline, and the
+-- bytes 19 to 1C, which are colours to relay clients, of which a terminal obeys 1B
 abbrev pub is_format : ℕ → Bool
-is_format b = (b == 2) || ((b == 15) || ((b == 17) || ((b == 22) || ((b == 29) || (b == 31)))))
+is_format b = (b == 2) || ((b == 4) || ((b == 15) || ((b == 17) || ((b == 22)
+    || ((nat_le 25 b && nat_le b 29) || (b == 31))))))
 
 abbrev pub is_digit_first : List ℕ → Bool
 is_digit_first [] = false

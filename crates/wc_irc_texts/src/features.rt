@@ -1,7 +1,8 @@
 ghost use Rattle.std.specs.Prelude.{◌≡◌, IfOk, OnOk, fold};
 ghost use Rattle.wc_irc_texts.specs.Features.{default_features, tokens_of, read_prefixes, read_case_map};
 ghost use Rattle.wc_irc_texts.specs.Features.{are_mode_lists, with_prefixes, with_case_map};
-ghost use Rattle.wc_irc_texts.specs.Features.{with_chan_modes, with_value, with_token, after_tokens};
+ghost use Rattle.wc_irc_texts.specs.Features.{with_chan_modes, with_status_msg, with_value, with_token};
+ghost use Rattle.wc_irc_texts.specs.Features.{after_tokens};
 
 use std::alloc::Global;
 use wc_ircmsg::{CaseMap, Prefixes, read_prefix_token};
@@ -21,6 +22,9 @@ pub struct Features {
     pub case_map: CaseMap,
     /// Four lists of modes of channels, which commas part.
     pub chan_modes: Text,
+    /// The signs before a channel that make of it those of its nicks that have the sign, where the
+    /// server tells them; else they are the signs of the modes of nicks.
+    pub status_msg: Option<Text>,
 }
 
 fn copied_prefixes(alloc: Global, prefixes: &Prefixes) -> Result<Prefixes, NoMemory>
@@ -29,6 +33,15 @@ fn copied_prefixes(alloc: Global, prefixes: &Prefixes) -> Result<Prefixes, NoMem
     let modes = prefixes.modes.copy(alloc)?;
     let chars = prefixes.chars.copy(alloc)?;
     Ok(Prefixes { modes, chars })
+}
+
+fn copied_signs(alloc: Global, signs: &Option<Text>) -> Result<Option<Text>, NoMemory>
+    ensures { IfOk result (λ copy. copy ≡ signs.now) }
+{
+    match signs {
+        Some(signs) => Ok(Some(signs.copy(alloc)?)),
+        None => Ok(None),
+    }
 }
 
 /// The sides of PREFIX in a value. None where it has another form.
@@ -83,6 +96,7 @@ impl Features {
             chan_types,
             case_map: CaseMap::Rfc1459,
             chan_modes,
+            status_msg: None,
         })
     }
 
@@ -93,11 +107,13 @@ impl Features {
         let prefixes = copied_prefixes(alloc, &self.prefixes)?;
         let chan_types = self.chan_types.copy(alloc)?;
         let chan_modes = self.chan_modes.copy(alloc)?;
+        let status_msg = copied_signs(alloc, &self.status_msg)?;
         Ok(Features {
             prefixes,
             chan_types,
             case_map: self.case_map,
             chan_modes,
+            status_msg,
         })
     }
 
@@ -134,6 +150,13 @@ impl Features {
         Ok(())
     }
 
+    fn take_status_msg(&mut self, alloc: Global, value: &[u8]) -> Result<(), NoMemory>
+        ensures { OnOk result (self.new ≡ with_status_msg self.old value.now) }
+    {
+        self.status_msg = Some(Text::from_slice(alloc, value)?);
+        Ok(())
+    }
+
     fn take_value(&mut self, alloc: Global, name: &[u8], value: &[u8]) -> Result<(), NoMemory>
         ensures { OnOk result (self.new ≡ with_value self.old name.now value.now) }
     {
@@ -149,6 +172,9 @@ impl Features {
         }
         if name == b"CHANMODES".as_slice() {
             return self.take_chan_modes(alloc, value);
+        }
+        if name == b"STATUSMSG".as_slice() {
+            return self.take_status_msg(alloc, value);
         }
         Ok(())
     }
@@ -173,7 +199,7 @@ impl Features {
 
     /// What the server tells of itself after a 005 with these parameters. Its tokens are those
     /// between the first and the last, and each counts over those before it. PREFIX, CHANTYPES,
-    /// CASEMAPPING and CHANMODES are read; a value of another form than its token has changes
+    /// CASEMAPPING, CHANMODES and STATUSMSG are read; a value of another form than its token has changes
     /// nothing, and neither does a token without `=` or with a `-` in front.
     pub fn after_tokens(&self, alloc: Global, params: &[Text]) -> Result<Features, NoMemory>
         ensures { IfOk result (λ features. features ≡ after_tokens self.now params.now) }

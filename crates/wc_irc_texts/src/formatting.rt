@@ -9,11 +9,18 @@ use wc_text::{NoMemory, Text};
 /// The byte that begins a colour.
 const COLOUR: u8 = 0x03;
 
-/// Whether a byte is bold, reset, reverse, italic, strike or underline.
+/// Whether a byte is bold, a colour in hexadecimal, reset, monospace, reverse, italic, strike or
+/// underline, or one of 19 to 1C, which are colours to relay clients.
 fn is_format(byte: u8) -> bool
     ensures { result ≡ is_format byte }
 {
-    byte == 0x02 || byte == 0x0F || byte == 0x11 || byte == 0x16 || byte == 0x1D || byte == 0x1F
+    byte == 0x02
+        || byte == 0x04
+        || byte == 0x0F
+        || byte == 0x11
+        || byte == 0x16
+        || 0x19 <= byte && byte <= 0x1D
+        || byte == 0x1F
 }
 
 fn is_digit_first(text: &[u8]) -> bool
@@ -106,8 +113,8 @@ fn past_format(text: &[u8]) -> &[u8]
     }
 }
 
-/// A text without its formatting bytes, which are 02, 0F, 11, 16, 1D, 1F and 03 with up to two
-/// digits and after them a comma and up to two more.
+/// A text without its formatting bytes, which are 02, 04, 0F, 11, 16, 19 to 1D, 1F and 03 with up
+/// to two digits and after them a comma and up to two more.
 #[tactic(auto, using(crate::proofs::TextLemmas::plain_steps))]
 pub fn plain(alloc: Global, text: &[u8]) -> Result<Text, NoMemory>
     ensures { IfOk result (λ bare. bare ≡ plain text.now) }

@@ -13,15 +13,17 @@ mod names;
 mod params;
 mod seat;
 mod speech;
+mod statuses;
 
 pub use features::Features;
 pub use formatting::plain;
 pub use groups::{group_at, group_names, sign_at};
 pub use kind::{MessageKind, kind_of};
-pub use line_text::{in_one_line, joined, reason_text, source_text, spaced};
+pub use line_text::{in_one_line, joined, reason_text, source_text, spaced, unquoted};
 pub use listed::{ListedName, listed_name};
 pub use modes::{ModeChange, mode_changes};
 pub use names::{LONGEST_NICK, is_channel, is_nick, is_same};
 pub use params::{last_param, param, params_from};
 pub use seat::{ModeSet, Seat};
 pub use speech::calls_nick;
+pub use statuses::{status_sign, whole_channel};

@@ -1,7 +1,7 @@
 ghost use Rattle.std.specs.Prelude.{◌≡◌, ◌++◌, ◌∷◌, map, IfOk, OnOk};
 ghost use Rattle.std.specs.List.{concat};
 ghost use Rattle.wc_ircmsg.specs.Written.{ends_lines};
-ghost use Rattle.wc_irc_texts.specs.Texts.{spaced, in_one_line, reason_text, source_text};
+ghost use Rattle.wc_irc_texts.specs.Texts.{spaced, in_one_line, unquoted, reason_text, source_text};
 
 use std::alloc::Global;
 use wc_ircmsg::Message;
@@ -53,6 +53,18 @@ pub fn in_one_line(alloc: Global, text: &[u8]) -> Result<Text, NoMemory>
         .iter()
         .copied()
         .filter(|byte| !ends_line(*byte))
+        .collect(alloc)?;
+    Text::from_slice(alloc, kept.as_slice())
+}
+
+/// A reply between clients (CTCP) without the bytes 01 that stand around it.
+pub fn unquoted(alloc: Global, text: &[u8]) -> Result<Text, NoMemory>
+    ensures { IfOk result (λ bare. bare ≡ unquoted text.now) }
+{
+    let kept: Vec<u8> = text
+        .iter()
+        .copied()
+        .filter(|byte| *byte != 0x01)
         .collect(alloc)?;
     Text::from_slice(alloc, kept.as_slice())
 }

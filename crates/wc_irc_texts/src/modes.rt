@@ -17,7 +17,7 @@ pub struct ModeChange<'a> {
     pub nick: &'a [u8],
 }
 
-fn has_letter(letter: u8, modes: &[u8]) -> bool
+pub(crate) fn has_letter(letter: u8, modes: &[u8]) -> bool
     ensures { result ≡ has_letter letter modes.now }
 {
     modes.contains(&letter)

@@ -22,8 +22,8 @@ use Rattle.wc_irc.specs.NickActs.{add_group, add_groups, add_nick, remove_nick, 
 use Rattle.wc_irc.specs.RenameActs.{come_again, nick_line, rename_on, rename_as, rename_of, renamed_buffer, rename_private, own_var, own_vars, nick_acts}
 use Rattle.wc_irc.specs.Servers.{ServerState, is_own, own_nick_from, may_try, next_nick}
 use Rattle.wc_irc.specs.ServerActs.{acts_of_kind, acts_of_server, kind_to}
-use Rattle.wc_irc.specs.SpeechActs.{Talk, Says, Does, Requests, talk_of, talk_line, talk_tags, on_private, on_target, acts_of_talk, privmsg_acts}
-use Rattle.wc_irc.specs.TalkActs.{sent, taken_acts, has_var, differs, told_nick, tell_nick, welcome_line, raised, welcome_acts, notice_line, notice_acts}
+use Rattle.wc_irc.specs.SpeechActs.{Talk, Says, Does, Requests, talk_heard, talk_line, talk_tags, on_private, on_target, acts_of_talk, privmsg_acts}
+use Rattle.wc_irc.specs.TalkActs.{aimed, sent, taken_acts, has_var, differs, told_nick, tell_nick, welcome_line, raised, welcome_acts, notice_line, notice_acts}
 use Rattle.wc_irc.specs.Targets.{found, full_name, server_buffer}
 use Rattle.wc_irc.specs.TitleActs.{topic_on, topic_reply_on, names_end_on, mode_reply_on}
 use Rattle.wc_irc_nicks.specs.Seats.{seat_of}
@@ -167,7 +167,7 @@ mild_private s nick line there each = mild_both (opened there (codes "private") 
 
 mild_target : (groups : EntryGroups) (s : ServerState) (target nick : List ℕ) (line : List ℕ → Act) → ((buffer : List ℕ) → IsMildAct (line buffer)) → AreMild (on_target groups s target nick line)
 mild_target groups s target nick line each =
-    mild_if (is_channel s.features.chan_types target) _ (on_private s nick line (found groups s nick)) (mild_found (found groups s target) (λ buffer. line buffer ∷ []) (λ buffer. (each buffer, tt)))
+    mild_if (is_channel s.features.chan_types (aimed s target)) _ (on_private s nick line (found groups s nick)) (mild_found (found groups s (aimed s target)) (λ buffer. line buffer ∷ []) (λ buffer. (each buffer, tt)))
     (mild_private s nick line (found groups s nick) each)
 
 -- on a target, from a nick
@@ -175,7 +175,7 @@ pub mild_talk : (groups : EntryGroups) (s : ServerState) (target nick from : Lis
 mild_talk groups s target nick from does text tags = mild_target groups s target nick (talk_line s target from does text tags) (λ buffer. mild_talk_line s target from does text tags buffer)
 
 mild_privmsg : (groups : EntryGroups) (s : ServerState) (m : Message) → AreMild (privmsg_acts groups s m)
-mild_privmsg groups s m = by (talk_of (param 1 m)) where
+mild_privmsg groups s m = by (talk_heard m) where
   by : (talk : Talk) → AreMild (acts_of_talk groups s m talk)
   by (Says text) = mild_talk groups s (param 0 m) m.nick m.nick false text (talk_tags s m false)
   by (Does deed) = mild_talk groups s (param 0 m) m.nick m.nick true deed (talk_tags s m true)
@@ -183,7 +183,7 @@ mild_privmsg groups s m = by (talk_of (param 1 m)) where
 
 mild_notice : (groups : EntryGroups) (s : ServerState) (m : Message) → AreMild (notice_acts groups s m)
 mild_notice groups s m =
-    mild_if (is_channel s.features.chan_types (param 0 m)) _ (notice_line m (server_buffer s.name) ∷ []) (mild_found (found groups s (param 0 m)) (λ buffer. notice_line m buffer ∷ []) (λ buffer. mild_line buffer _ _ _))
+    mild_if (is_channel s.features.chan_types (aimed s (param 0 m))) _ (notice_line m (server_buffer s.name) ∷ []) (mild_found (found groups s (aimed s (param 0 m))) (λ buffer. notice_line m buffer ∷ []) (λ buffer. mild_line buffer _ _ _))
     (mild_line (server_buffer s.name) _ _ _)
 
 -- ---- the server itself

@@ -8,4 +8,4 @@ pub returns : goal.returns
 returns c =
     let bare = append-nil c.args.nick.now in
     IfOk-weaker c.joined.result _ (λ (shown : List ℕ). shown ≡ shown_nick (seen c.args.state.now) c.args.target.now c.args.nick.now)
-    (λ shown is. is ∙ (λ i. c.sign_in.ensures i ++ bare i)) c.joined.ensures
+    (λ shown is. is ∙ (λ i. c.shown_sign.ensures i ++ bare i)) c.joined.ensures
