@@ -23,8 +23,10 @@ use crate::state::State;
 use crate::targets::{found, server_buffer};
 use std::alloc::Global;
 use wc_buffers::{BufferRow, Buffers, Vars};
-use wc_irc_texts::{in_one_line, is_channel, joined, last_param, param, params_from, spaced, unquoted};
-use wc_irc_texts::whole_channel;
+use wc_irc_texts::{
+    in_one_line, is_channel, joined, last_param, param, params_from, spaced, unquoted,
+    whole_channel,
+};
 use wc_ircmsg::Message;
 use wc_model::What;
 use wc_text::{Cause, Handle, Items, NoMemory, Pair, Text};
