@@ -17,7 +17,7 @@ use Rattle.wc_options.specs.Options.{fresh, with_value, value_of}
 use Rattle.wc_options.specs.Table.{globals, place_in}
 use Rattle.wc_relaycmd.specs.declared.algorithm.Algorithm.TheVariants.{Plain}
 use Rattle.wc_relaycmd.specs.Choices.{is_common}
-use Rattle.wc_session.specs.Handshakes.{first_choice}
+use Rattle.wc_session.specs.Handshakes.{first_choice, algorithm_for}
 use Rattle.wc_session.specs.Heeded.{password_of, masks_of}
 use Rattle.wc_session.specs.Known.{new_client}
 use Rattle.wc_session.specs.Logins.{pairs_let_in, lets_in}
@@ -104,10 +104,10 @@ plain_allowed : first_choice (codes "*") ≡ Some Plain
 unfolding first_choice is_common
 plain_allowed = refl
 
-password_given : pairs_let_in (pairs_of (codes "password=x")) (password_of only_password) [] came.chosen ≡ true
+password_given : pairs_let_in (pairs_of (codes "password=x")) (password_of only_password) [] (algorithm_for (masks_of only_password) came.chosen) ≡ true
 password_given =
     let pairs = pairs_of (codes "password=x") in
-    ap (λ p. pairs_let_in pairs p [] came.chosen) password_is ∙ ap (λ m. pairs_let_in pairs (codes "x") [] (first_choice m)) masks_are ∙ ap (pairs_let_in pairs (codes "x") []) plain_allowed ∙ password_lets_in
+    ap (λ p. pairs_let_in pairs p [] (algorithm_for (masks_of only_password) came.chosen)) password_is ∙ ap (λ m. pairs_let_in pairs (codes "x") [] (first_choice m)) masks_are ∙ ap (pairs_let_in pairs (codes "x") []) plain_allowed ∙ password_lets_in
 
 -- the groups of the core buffer alone
 abbrev core_alone : EntryGroups
