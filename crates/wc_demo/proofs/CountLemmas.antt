@@ -47,13 +47,13 @@ group_end count xs group i all m e = e ∙ ap (λ t. count (xs ++ t)) (take_all 
 
 -- ---- what is there
 
-abbrev pub ring : ℕ → List Line → RingView
-ring limit lines = record { limit = limit; lines = lines }
+abbrev pub ring : ℕ → ℕ → List Line → RingView
+ring limit count lines = record { limit = limit; lines = lines; pushed = count }
 
-pub held_lines : (o : Option (List Line)) (limit : ℕ) (held : RingView) → Some held ≡ option_map (ring limit) o → length held.lines ≡ length (unwrap_or o [])
-held_lines None limit held e = cc
-held_lines (Some lines) limit held e = let f : held ≡ record { limit = limit; lines = lines } = cc in ap (λ (h : RingView). length h.lines) f
+pub held_lines : (o : Option (List Line)) (limit count : ℕ) (held : RingView) → Some held ≡ option_map (ring limit count) o → length held.lines ≡ length (unwrap_or o [])
+held_lines None limit count held e = cc
+held_lines (Some lines) limit count held e = let f : held ≡ record { limit = limit; lines = lines; pushed = count } = cc in ap (λ (h : RingView). length h.lines) f
 
-pub no_lines : (o : Option (List Line)) (limit : ℕ) → None ≡ option_map (ring limit) o → 0 ≡ length (unwrap_or o [])
-no_lines None limit e = refl
-no_lines (Some lines) limit e = cc
+pub no_lines : (o : Option (List Line)) (limit count : ℕ) → None ≡ option_map (ring limit count) o → 0 ≡ length (unwrap_or o [])
+no_lines None limit count e = refl
+no_lines (Some lines) limit count e = cc

@@ -1,4 +1,5 @@
 pub mod DumpLemmas
+pub mod AddedItem
 pub mod EventsFormed
 pub mod Formed
 pub mod HdaMessages

@@ -43,9 +43,9 @@ pub lines_held : (world : World) (buffer : Handle) (lines : List Line) → is_th
 lines_held world buffer lines there text =
     all_map HasUtf8Texts (IsHeld world) (held_by buffer) (λ line utf8. record { text = utf8; there = there }) lines (all_of HasUtf8Texts lines text)
 
-pub lines_of_ring : (o : Option (List Line)) (limit : ℕ) (ring : RingView) → Some ring ≡ option_map (λ (lines : List Line). record { limit = limit; lines = lines }) o → unwrap_or o [] ≡ ring.lines
-lines_of_ring None limit ring e = absurd (cc)
-lines_of_ring (Some lines) limit ring e = let same : ring ≡ record { limit = limit; lines = lines } = cc in ap (λ (r : RingView). r.lines) (sym same)
+pub lines_of_ring : (o : Option (List Line)) (limit count : ℕ) (ring : RingView) → Some ring ≡ option_map (λ (lines : List Line). record { limit = limit; lines = lines; pushed = count }) o → unwrap_or o [] ≡ ring.lines
+lines_of_ring None limit count ring e = absurd (cc)
+lines_of_ring (Some lines) limit count ring e = let same : ring ≡ record { limit = limit; lines = lines; pushed = count } = cc in ap (λ (r : RingView). r.lines) (sym same)
 
 -- ---- buffers
 
