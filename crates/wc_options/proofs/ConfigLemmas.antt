@@ -1,13 +1,18 @@
 -- What the lines of a file make of the options.
-use Rattle.std.proofs.Common.{ℕ, ◌≡◌, ◌≢◌, ◌+◌, ◌<◌, ◌≤◌, Bool, true, false, cond, List, [], ◌∷◌, ◌++◌, length, take, drop, get_or, Option, Some, None, Result, Ok, Err, refl, ap, sym, ◌∙◌, subst, arith}
-use Rattle.std.specs.Prelude.{bytes_eq, option_map}
+use Rattle.std.proofs.Common.{ℕ, ◌≡◌, ◌+◌, ◌<◌, Bool, true, false, List, [], ◌∷◌, ◌++◌, length, take, drop, get_or, Option, Some, None, Ok, Err, refl, ap, sym, ◌∙◌, subst, arith}
+use Rattle.std.specs.Prelude.{bytes_eq, option_map, option_and_then}
+use Rattle.std.specs.Option.{option_map_or}
 use Rattle.std.specs.Str.{IsUtf8, is_utf8}
 use Rattle.std.proofs.lemmas.List.{drop-drop, drop_at, get_or-append-add, length-append, take-append-drop}
 use Rattle.std.proofs.lemmas.Slice.Eq.{bytes_eq-Decides}
 use Rattle.std.proofs.lemmas.Str.{IsUtf8-from_is_utf8, is_utf8-from_IsUtf8, IsUtf8-drop, IsCharBoundary-after_ascii}
-use Rattle.wc_options.specs.Config.{after_line, after_lines, config_of, of_lines, is_passed_over, with_setting, version_line}
+use Rattle.wc_options.specs.Config.{after_line, after_lines, config_of, of_lines, is_passed_over, setting_in, with_setting}
 use Rattle.wc_options.specs.File.{lines_of, parted, equals_sign}
 use Rattle.wc_options.specs.Options.{OptionsValue, fresh}
+use Rattle.wc_options.specs.Version.{is_in_quotes, told_version}
+use Rattle.wc_options.specs.declared.version.Version.{Version}
+use Rattle.wc_options.specs.declared.version.Version.TheVariants.{One}
+use Rattle.wc_options.specs.Quotes.{unquoted}
 use Rattle.wc_options.proofs.FileLemmas.{parted-here, parted-next}
 
 -- ---- UTF-8
@@ -26,17 +31,17 @@ pub ruleset utf8_tests = (utf8_true, utf8_false)
 
 -- ---- one line
 
-pub line_passed : (options : OptionsValue) (line : List ℕ) → true ≡ is_passed_over line → after_line options line ≡ Some options
+pub line_passed : (version : Version) (options : OptionsValue) (line : List ℕ) → true ≡ is_passed_over line → after_line version options line ≡ Some options
 unfolding after_line
-line_passed options line e = rw (← e) refl
+line_passed version options line e = rw (← e) refl
 
-pub line_not_text : (options : OptionsValue) (line : List ℕ) → false ≡ is_passed_over line → false ≡ is_utf8 line → after_line options line ≡ None
+pub line_not_text : (version : Version) (options : OptionsValue) (line : List ℕ) → false ≡ is_passed_over line → false ≡ is_utf8 line → after_line version options line ≡ None
 unfolding after_line
-line_not_text options line e u = rw (← e, ← u) refl
+line_not_text version options line e u = rw (← e, ← u) refl
 
-pub line_taken : (options : OptionsValue) (line : List ℕ) → false ≡ is_passed_over line → true ≡ is_utf8 line → after_line options line ≡ with_setting options (parted line)
+pub line_taken : (version : Version) (options : OptionsValue) (line : List ℕ) → false ≡ is_passed_over line → true ≡ is_utf8 line → after_line version options line ≡ with_setting options (option_and_then (setting_in version) (parted line))
 unfolding after_line
-line_taken options line e u = rw (← e, ← u) refl
+line_taken version options line e u = rw (← e, ← u) refl
 
 pub ruleset lines_taken = (line_passed, line_not_text)
 
@@ -86,16 +91,16 @@ value-text line name value p text = value-text-by name value (subst IsUtf8 (part
 
 -- ---- the lines of a file
 
-pub lines_step : (number : ℕ) (options following : OptionsValue) (line bytes rest : List ℕ) → lines_of bytes ≡ line ∷ lines_of rest → after_line options line ≡ Some following
-    → after_lines number options (lines_of bytes) ≡ after_lines (number + 1) following (lines_of rest)
-lines_step number options following line bytes rest e h = ap (after_lines number options) e ∙ rw h refl
+pub lines_step : (version : Version) (number : ℕ) (options following : OptionsValue) (line bytes rest : List ℕ) → lines_of bytes ≡ line ∷ lines_of rest → after_line version options line ≡ Some following
+    → after_lines version number options (lines_of bytes) ≡ after_lines version (number + 1) following (lines_of rest)
+lines_step version number options following line bytes rest e h = ap (after_lines version number options) e ∙ rw h refl
 
-pub lines_stop : (number : ℕ) (options : OptionsValue) (line bytes rest : List ℕ) → lines_of bytes ≡ line ∷ lines_of rest → after_line options line ≡ None
-    → after_lines number options (lines_of bytes) ≡ Err number
-lines_stop number options line bytes rest e h = ap (after_lines number options) e ∙ rw h refl
+pub lines_stop : (version : Version) (number : ℕ) (options : OptionsValue) (line bytes rest : List ℕ) → lines_of bytes ≡ line ∷ lines_of rest → after_line version options line ≡ None
+    → after_lines version number options (lines_of bytes) ≡ Err number
+lines_stop version number options line bytes rest e h = ap (after_lines version number options) e ∙ rw h refl
 
-pub lines_end : (number : ℕ) (options : OptionsValue) (bytes : List ℕ) → lines_of bytes ≡ [] → after_lines number options (lines_of bytes) ≡ Ok options
-lines_end number options bytes e = ap (after_lines number options) e
+pub lines_end : (version : Version) (number : ℕ) (options : OptionsValue) (bytes : List ℕ) → lines_of bytes ≡ [] → after_lines version number options (lines_of bytes) ≡ Ok options
+lines_end version number options bytes e = ap (after_lines version number options) e
 
 pub ruleset lines_read = (lines_step, lines_stop, lines_end)
 
@@ -103,15 +108,32 @@ pub config_empty : (bytes : List ℕ) → lines_of bytes ≡ [] → config_of by
 unfolding config_of
 config_empty bytes e = ap of_lines e
 
-pub config_version : (bytes line rest : List ℕ) (options : OptionsValue) → lines_of bytes ≡ line ∷ lines_of rest → bytes_eq line version_line ≡ true → options ≡ fresh
-    → config_of bytes ≡ after_lines 2 options (lines_of rest)
+pub config_told : (bytes line rest : List ℕ) (options : OptionsValue) (version : Version) → lines_of bytes ≡ line ∷ lines_of rest → told_version line ≡ Some version → options ≡ fresh
+    → config_of bytes ≡ after_lines version 2 options (lines_of rest)
 unfolding config_of
-config_version bytes line rest options e v o = ap of_lines e ∙ rw v refl ∙ ap (λ (start : OptionsValue). after_lines 2 start (lines_of rest)) (sym o)
+config_told bytes line rest options version e v o =
+    ap of_lines e
+    ∙ ap (λ told. option_map_or (λ w. after_lines w 2 fresh (lines_of rest)) told (after_lines One 1 fresh (line ∷ lines_of rest))) v
+    ∙ ap (λ (start : OptionsValue). after_lines version 2 start (lines_of rest)) (sym o)
 
-pub config_plain : (bytes line rest : List ℕ) (options : OptionsValue) → lines_of bytes ≡ line ∷ lines_of rest → bytes_eq line version_line ≡ false → options ≡ fresh
-    → config_of bytes ≡ after_lines 1 options (lines_of bytes)
+pub config_untold : (bytes line rest : List ℕ) (options : OptionsValue) → lines_of bytes ≡ line ∷ lines_of rest → told_version line ≡ None → options ≡ fresh
+    → config_of bytes ≡ after_lines One 1 options (lines_of bytes)
 unfolding config_of
-config_plain bytes line rest options e v o =
-    ap of_lines e ∙ rw v refl ∙ ap (after_lines 1 fresh) (sym e) ∙ ap (λ (start : OptionsValue). after_lines 1 start (lines_of bytes)) (sym o)
+config_untold bytes line rest options e v o =
+    ap of_lines e
+    ∙ ap (λ told. option_map_or (λ w. after_lines w 2 fresh (lines_of rest)) told (after_lines One 1 fresh (line ∷ lines_of rest))) v
+    ∙ ap (after_lines One 1 fresh) (sym e)
+    ∙ ap (λ (start : OptionsValue). after_lines One 1 start (lines_of bytes)) (sym o)
 
 pub ruleset config_read = (config_empty)
+
+-- ---- a value as a version has it
+
+pub setting_as_is : (version : Version) (name written : List ℕ) → is_in_quotes version written ≡ false → setting_in version (name, written) ≡ Some (name, written)
+setting_as_is version name written q = rw q refl
+
+pub setting_in_quotes : (version : Version) (name written value : List ℕ) → is_in_quotes version written ≡ true → unquoted written ≡ Some value → setting_in version (name, written) ≡ Some (name, value)
+setting_in_quotes version name written value q e = rw (q, e) refl
+
+pub setting_unreadable : (version : Version) (name written : List ℕ) → is_in_quotes version written ≡ true → unquoted written ≡ None → setting_in version (name, written) ≡ None
+setting_unreadable version name written q e = rw (q, e) refl

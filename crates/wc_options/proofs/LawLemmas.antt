@@ -1,73 +1,23 @@
 -- What is written of options is read back as these options.
-use Rattle.std.proofs.Common.{ℕ, zero, suc, ◌≡◌, ◌≢◌, ◌+◌, ◌<◌, ◌≤◌, Bool, true, false, cond, not, ◌&&◌, List, [], ◌∷◌, ◌++◌, length, map, take, drop, get_or, set, Option, Some, None, Result, Ok, Err, refl, ap, sym, ◌∙◌, subst, arith, leb, ltb}
-use Rattle.std.specs.Prelude.{bytes_eq, option_map, is_some, is_none, ◌==◌, nat_lt}
-use Rattle.std.specs.List.{flat_map, list_all, before_first, after_first}
-use Rattle.std.specs.Str.{IsUtf8, is_utf8, IsAscii}
-use Rattle.std.proofs.lemmas.Bool.Decides.{nat_tests}
-use Rattle.std.proofs.lemmas.List.{append_assoc, append-nil, set_at, length_push}
-use Rattle.std.proofs.lemmas.Str.{IsUtf8-append, IsUtf8-from_ascii, is_utf8-from_IsUtf8}
-use Rattle.wc_options.specs.Address.{before_dot, after_dot}
-use Rattle.wc_options.specs.Config.{after_line, after_lines, config_of, of_lines, is_passed_over, with_setting, version_line, set_line, set_lines, prefix_of, server_lines, config_lines, text_of_lines, config_text}
+use Rattle.std.proofs.Common.{ℕ, ◌≡◌, true, false, not, ◌&&◌, List, [], ◌∷◌, ◌++◌, length, take, Some, None, refl, ap, sym, ◌∙◌, leb}
+use Rattle.std.specs.Prelude.{bytes_eq, option_map, option_and_then, ◌==◌}
+use Rattle.std.specs.List.{list_all}
+use Rattle.std.specs.Str.{IsUtf8}
+use Rattle.std.proofs.lemmas.List.{append_assoc}
+use Rattle.std.proofs.lemmas.Str.{IsUtf8-append, is_utf8-from_IsUtf8}
+use Rattle.wc_options.specs.Config.{after_line, is_passed_over, with_setting, setting_in, text_of_lines}
 use Rattle.wc_options.specs.File.{lines_of, parted, equals_sign, onto_first}
-use Rattle.wc_options.specs.Kept.{Fits, FitAll, AreServers, AreOptionsKept, unset_at_first}
-use Rattle.wc_options.specs.Names.{Located, AtGlobal, AtServer, located, located_of_server, row_of_located, is_server_name, is_server_byte, server_prefix}
-use Rattle.wc_options.specs.Options.{ServerOptions, OptionsValue, is_named, has_server, own_at_first, fresh_server, fresh, with_own, put_own, refusal_of, refusal_at, with_value, with_value_at, makes_server}
-use Rattle.wc_options.specs.Table.{OptionRow, globals, of_server, place_in, row_at}
-use Rattle.wc_options.specs.Values.{value_fits, is_storable, is_of_kind, is_storable_byte}
-use Rattle.wc_options.proofs.ConfigLemmas.{line_taken}
+use Rattle.wc_options.specs.Names.{Located, located, row_of_located}
+use Rattle.wc_options.specs.Options.{OptionsValue, refusal_of, with_value_at, makes_server}
+use Rattle.wc_options.specs.Values.{value_fits}
+use Rattle.wc_options.specs.Quotes.{quoted}
+use Rattle.wc_options.specs.Version.{is_in_quotes}
+use Rattle.wc_options.specs.declared.version.Version.TheVariants.{Two}
+use Rattle.wc_options.proofs.ByteLemmas.{no_lf, no_blank, and-first, and-second, not-true, text-from_ascii}
+use Rattle.wc_options.proofs.ConfigLemmas.{line_taken, setting_in_quotes}
 use Rattle.wc_options.proofs.FileLemmas.{lines_of-hit, lines_of-miss, parted-here, parted-next}
-use Rattle.wc_options.proofs.KeptLemmas.{refusal_of_some, with_value_some, not_head, not_tail, has_server-push, bytes_eq-sym, has_server-cons}
-use Rattle.wc_options.proofs.PartLemmas.{before_first-hit, before_first-miss, after_first-hit, after_first-miss}
-
--- ---- tests of all bytes
-
-pub and-first : (a b : Bool) → (a && b) ≡ true → a ≡ true
-and-first true b h = refl
-and-first false b h = cc
-
-pub and-second : (a b : Bool) → (a && b) ≡ true → b ≡ true
-and-second true b h = h
-and-second false b h = cc
-
-pub list_all-append : (p : ℕ → Bool) (xs ys : List ℕ) → list_all p xs ≡ true → list_all p ys ≡ true → list_all p (xs ++ ys) ≡ true
-list_all-append p [] ys h k = k
-list_all-append p (x ∷ xs) ys h k =
-    rw (and-first (p x) (list_all p xs) h) (list_all-append p xs ys (and-second (p x) (list_all p xs) h) k)
-
-pub list_all-weaken : (p q : ℕ → Bool) → ((x : ℕ) → p x ≡ true → q x ≡ true) → (xs : List ℕ) → list_all p xs ≡ true → list_all q xs ≡ true
-list_all-weaken p q more [] h = refl
-list_all-weaken p q more (x ∷ xs) h =
-    rw (more x (and-first (p x) (list_all p xs) h)) (list_all-weaken p q more xs (and-second (p x) (list_all p xs) h))
-
-pub not-true : (b : Bool) → not b ≡ true → b ≡ false
-not-true true h = cc
-not-true false h = refl
-
--- a byte other than LF, other than a blank, other than a dot
-abbrev pub no_lf : ℕ → Bool
-no_lf byte = not (byte == 10)
-
-abbrev pub no_blank : ℕ → Bool
-no_blank byte = not (byte == 32)
-
-abbrev pub no_dot : ℕ → Bool
-no_dot byte = not (byte == 46)
-
--- ---- ASCII
-
-abbrev pub is_ascii : ℕ → Bool
-is_ascii byte = nat_lt byte 128
-
-ascii-below : (byte : ℕ) → is_ascii byte ≡ true → byte < 128
-ascii-below byte h = grind (arith, nat_tests)
-
-all-ascii : (text : List ℕ) → list_all is_ascii text ≡ true → IsAscii text
-all-ascii [] h i = omega arith
-all-ascii (byte ∷ text) h zero = ascii-below byte (and-first (is_ascii byte) (list_all is_ascii text) h)
-all-ascii (byte ∷ text) h (suc i) = all-ascii text (and-second (is_ascii byte) (list_all is_ascii text) h) i
-
-pub text-from_ascii : (text : List ℕ) → list_all is_ascii text ≡ true → IsUtf8 text
-text-from_ascii text h = IsUtf8-from_ascii text (all-ascii text h)
+use Rattle.wc_options.proofs.KeptLemmas.{refusal_of_some, with_value_some}
+use Rattle.wc_options.proofs.QuotesLemmas.{quoted-text, unquoted_quoted}
 
 -- ---- lines
 
@@ -132,11 +82,17 @@ taken-some : (options : OptionsValue) (name value : List ℕ) (place : Located) 
 taken-some options name value place here can =
     rw (not_refused options name value place here can) (ap Some (with_value_some options name value place (sym here)))
 
+in-quotes : (value : List ℕ) → is_in_quotes Two (quoted value) ≡ true
+unfolding quoted
+in-quotes value = refl
+
 pub read-line : (options : OptionsValue) (name value : List ℕ) (place : Located) → IsNameAt name place → CanTake options place value
-    → after_line options (name ++ equals_sign ++ value) ≡ Some (with_value_at options value place)
+    → after_line Two options (name ++ equals_sign ++ quoted value) ≡ Some (with_value_at options value place)
 read-line options name value place at can =
-    let whole : IsUtf8 (name ++ (equals_sign ++ value)) = IsUtf8-append name (equals_sign ++ value) at.text (IsUtf8-append equals_sign value equals-text can.text) in
-    ap (after_line options) (append_assoc name equals_sign value)
-    ∙ line_taken options (name ++ (equals_sign ++ value)) (sym (at.begins (equals_sign ++ value))) (sym (is_utf8-from_IsUtf8 (name ++ (equals_sign ++ value)) whole))
-    ∙ ap (with_setting options) (part-first name value at.plain)
+    let written = quoted value in
+    let whole : IsUtf8 (name ++ (equals_sign ++ written)) = IsUtf8-append name (equals_sign ++ written) at.text (IsUtf8-append equals_sign written equals-text (quoted-text value can.text)) in
+    ap (after_line Two options) (append_assoc name equals_sign written)
+    ∙ line_taken Two options (name ++ (equals_sign ++ written)) (sym (at.begins (equals_sign ++ written))) (sym (is_utf8-from_IsUtf8 (name ++ (equals_sign ++ written)) whole))
+    ∙ ap (λ parts. with_setting options (option_and_then (setting_in Two) parts)) (part-first name written at.plain)
+    ∙ ap (with_setting options) (setting_in_quotes Two name written value (in-quotes value) (unquoted_quoted value))
     ∙ taken-some options name value place at.here can

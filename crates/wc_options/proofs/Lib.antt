@@ -1,9 +1,11 @@
+pub mod ByteLemmas
 pub mod ConfigLemmas
 pub mod FileLemmas
 pub mod KeptLemmas
 pub mod LawLemmas
 pub mod NumberLemmas
 pub mod PartLemmas
+pub mod QuotesLemmas
 pub mod ReadLemmas
 pub mod RoundTrip
 pub mod ServersLemmas

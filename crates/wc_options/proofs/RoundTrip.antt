@@ -1,31 +1,36 @@
 -- What is written of options is read back as these options.
-use Rattle.std.proofs.Common.{ℕ, zero, suc, ◌≡◌, ◌≢◌, ◌+◌, ◌<◌, ◌≤◌, Bool, true, false, cond, not, ◌&&◌, List, [], ◌∷◌, ◌++◌, length, map, take, drop, get_or, set, Option, Some, None, Result, Ok, Err, refl, ap, sym, ◌∙◌, subst, arith, leb}
-use Rattle.std.specs.Prelude.{bytes_eq, option_map, is_some, ◌==◌, find}
+use Rattle.std.proofs.Common.{ℕ, suc, ◌≡◌, ◌≢◌, ◌+◌, ◌<◌, ◌≤◌, Bool, true, false, not, ◌&&◌, List, [], ◌∷◌, ◌++◌, length, map, drop, get_or, set, Option, Some, None, Ok, refl, ap, sym, ◌∙◌, subst, arith, leb}
+use Rattle.std.specs.Prelude.{is_some, ◌==◌, find}
 use Rattle.std.specs.List.{flat_map, list_all}
 use Rattle.std.specs.Str.{IsUtf8}
 use Rattle.std.proofs.lemmas.Bool.Decides.{nat_tests}
 use Rattle.std.proofs.lemmas.List.{append_assoc, append-nil, set_at, length_push, length-append}
-use Rattle.wc_options.specs.Config.{after_line, after_lines, config_of, of_lines, version_line, set_line, set_lines, prefix_of, server_lines, config_lines, text_of_lines, config_text}
-use Rattle.wc_options.specs.File.{lines_of, equals_sign}
-use Rattle.wc_options.specs.Kept.{Fits, FitAll, AreServers, AreOptionsKept, unset_at_first}
-use Rattle.wc_options.specs.Names.{Located, AtGlobal, AtServer, row_of_located, is_server_name}
-use Rattle.wc_options.specs.Options.{ServerOptions, OptionsValue, is_named, has_server, own_at_first, fresh_server, fresh, with_own, put_own, with_value_at, makes_server}
-use Rattle.wc_options.specs.Table.{OptionRow, globals, of_server, place_in, row_at, no_row}
+use Rattle.wc_options.specs.Config.{after_line, after_lines, config_of, of_lines, set_line, set_lines, prefix_of, server_lines, config_lines, config_text}
+use Rattle.wc_options.specs.File.{equals_sign}
+use Rattle.wc_options.specs.Quotes.{quoted}
+use Rattle.wc_options.specs.Version.{version_line}
+use Rattle.wc_options.specs.declared.version.Version.TheVariants.{Two}
+use Rattle.wc_options.specs.Kept.{FitAll, AreServers, AreOptionsKept, unset_at_first}
+use Rattle.wc_options.specs.Names.{AtGlobal, AtServer, is_server_name}
+use Rattle.wc_options.specs.Options.{ServerOptions, OptionsValue, is_named, has_server, own_at_first, fresh, put_own}
+use Rattle.wc_options.specs.Table.{OptionRow, globals, of_server, place_in, no_row}
 use Rattle.wc_options.specs.Values.{value_fits, is_storable, is_of_kind, is_storable_byte}
 use Rattle.wc_options.proofs.KeptLemmas.{not_head, not_tail, has_server-push, bytes_eq-sym, bytes_eq-same}
-use Rattle.wc_options.proofs.LawLemmas.{IsNameAt, CanTake, read-line, no_lf, list_all-append, list_all-weaken, and-first, and-second, AreLines, AreLines-append, lines_of-ended}
+use Rattle.wc_options.proofs.ByteLemmas.{no_lf, list_all-append, list_all-weaken, and-first, and-second}
+use Rattle.wc_options.proofs.LawLemmas.{read-line, AreLines, AreLines-append, lines_of-ended}
+use Rattle.wc_options.proofs.QuotesLemmas.{quoted-line}
 use Rattle.wc_options.proofs.ServersLemmas.{put_own_none}
 use Rattle.wc_options.proofs.TableLaw.{AreNamed, globals-AreNamed, ArePlain, of_server-ArePlain, server-IsNameAt}
 
 -- ---- lines read one after another, wherever they are
 
 pub record Reads (before : OptionsValue) (lines : List (List ℕ)) (after : OptionsValue) : Type 0 where
-  pub run : (number : ℕ) (more : List (List ℕ)) → (last : ℕ) × (after_lines number before (lines ++ more) ≡ after_lines last after more)
+  pub run : (number : ℕ) (more : List (List ℕ)) → (last : ℕ) × (after_lines Two number before (lines ++ more) ≡ after_lines Two last after more)
 
 Reads-none : (options : OptionsValue) → Reads options [] options
 Reads-none options = record { run = λ number more. (number, refl) }
 
-Reads-line : (before following after : OptionsValue) (line : List ℕ) (lines : List (List ℕ)) → after_line before line ≡ Some following → Reads following lines after → Reads before (line ∷ lines) after
+Reads-line : (before following after : OptionsValue) (line : List ℕ) (lines : List (List ℕ)) → after_line Two before line ≡ Some following → Reads following lines after → Reads before (line ∷ lines) after
 Reads-line before following after line lines e reads = record { run = λ number more. let rest = reads.run (number + 1) more in (rest.0, rw e rest.1) }
 
 Reads-append : (before between after : OptionsValue) (xs ys : List (List ℕ)) → Reads before xs between → Reads between ys after → Reads before (xs ++ ys) after
@@ -33,7 +38,7 @@ Reads-append before between after xs ys first second = record {
   run = λ number more.
       let front = first.run number (ys ++ more) in
       let back = second.run front.0 more in
-      (back.0, ap (after_lines number before) (append_assoc xs ys more) ∙ front.1 ∙ back.1);
+      (back.0, ap (after_lines Two number before) (append_assoc xs ys more) ∙ front.1 ∙ back.1);
 }
 
 -- ---- a table of values
@@ -42,7 +47,7 @@ Reads-append before between after xs ys first second = record {
 abbrev EachLine : (List (Option (List ℕ)) → OptionsValue) → List ℕ → ℕ → List OptionRow → Type 0
 EachLine state prefix place [] = Unit {0}
 EachLine state prefix place (row ∷ rows) =
-    ((values : List (Option (List ℕ))) (value : List ℕ) → value_fits row.kind value ≡ true → IsUtf8 value → after_line (state values) (set_line prefix row value) ≡ Some (state (set values place (Some value))))
+    ((values : List (Option (List ℕ))) (value : List ℕ) → value_fits row.kind value ≡ true → IsUtf8 value → after_line Two (state values) (set_line prefix row value) ≡ Some (state (set values place (Some value))))
     × EachLine state prefix (suc place) rows
 
 read-table : (state : List (Option (List ℕ)) → OptionsValue) (prefix : List ℕ) (first : OptionRow → Option (List ℕ)) (rows : List OptionRow) (values front : List (Option (List ℕ))) (place : ℕ)
@@ -60,7 +65,7 @@ read-table state prefix first (row ∷ rows) (Some value ∷ values) front place
     let next : length (front ++ Some value ∷ []) ≡ suc place = length-append front (Some value ∷ []) ∙ rw at (omega arith) in
     let rest = read-table state prefix first rows values (front ++ Some value ∷ []) (suc place) each.1 fit.1 next in
     let put : set (front ++ map first (row ∷ rows)) place (Some value) ≡ front ++ Some value ∷ [] ++ map first rows = set_at front (first row) (map first rows) (Some value) place at ∙ sym (append_assoc front (Some value ∷ []) (map first rows)) in
-    let line : after_line (state (front ++ map first (row ∷ rows))) (set_line prefix row value) ≡ Some (state (front ++ Some value ∷ [] ++ map first rows)) =
+    let line : after_line Two (state (front ++ map first (row ∷ rows))) (set_line prefix row value) ≡ Some (state (front ++ Some value ∷ [] ++ map first rows)) =
     each.0 (front ++ map first (row ∷ rows)) value fit.0.0 fit.0.1 ∙ ap (λ vs. Some (state vs)) put in
     Reads-line _ _ _ (set_line prefix row value) (set_lines prefix rows values) line
     (subst (λ (vs : List (Option (List ℕ))). Reads (state (front ++ Some value ∷ [] ++ map first rows)) (set_lines prefix rows values) (state vs)) (append_assoc front (Some value ∷ []) values) rest)
@@ -124,7 +129,7 @@ none_from name servers h = none_from-by (find (is_named name) servers) h
 -- the server's first line makes it
 first-line-makes : (values : List (Option (List ℕ))) (done : List ServerOptions) (name value : List ℕ) (row : OptionRow) (rows : List OptionRow)
     → is_server_name name ≡ true → has_server name done ≡ false → length done < 64 → ArePlain 0 (row ∷ rows) → value_fits row.kind value ≡ true → IsUtf8 value
-    → after_line (global_state done values) (set_line (prefix_of name) row value) ≡ Some (server_state values done name (set (map own_at_first of_server) 0 (Some value)))
+    → after_line Two (global_state done values) (set_line (prefix_of name) row value) ≡ Some (server_state values done name (set (map own_at_first of_server) 0 (Some value)))
 first-line-makes values done name value row rows named absent few plain fit text =
     let room_test : leb 64 (length done) ≡ false = grind (arith, nat_tests) in
     read-line (global_state done values) (prefix_of name ++ row.name) value (AtServer name 0)
@@ -207,7 +212,7 @@ set_lines-AreLines prefix first [] values whole fit = tt
 set_lines-AreLines prefix first (row ∷ rows) [] whole fit = tt
 set_lines-AreLines prefix first (row ∷ rows) (None ∷ values) whole fit = set_lines-AreLines prefix first rows values whole.1 fit.1
 set_lines-AreLines prefix first (row ∷ rows) (Some value ∷ values) whole fit = (
-  list_all-append no_lf (prefix ++ row.name ++ equals_sign) value (list_all-append no_lf (prefix ++ row.name) equals_sign whole.0 refl) (value-line row value fit.0.0),
+  list_all-append no_lf (prefix ++ row.name ++ equals_sign) (quoted value) (list_all-append no_lf (prefix ++ row.name) equals_sign whole.0 refl) (quoted-line value (value-line row value fit.0.0)),
   set_lines-AreLines prefix first rows values whole.1 fit.1,
 )
 
@@ -248,7 +253,7 @@ lines-are options kept = (
       (servers-AreLines options.servers kept.servers_fit),
 )
 
-version-first : (lines : List (List ℕ)) → of_lines (version_line ∷ lines) ≡ after_lines 2 fresh lines
+version-first : (lines : List (List ℕ)) → of_lines (version_line ∷ lines) ≡ after_lines Two 2 fresh lines
 version-first lines = refl
 
 -- what is written of options is read as these options
@@ -259,5 +264,5 @@ config_of-config_text options kept =
     let run = (read-all options kept).run 2 [] in
     ap of_lines (lines_of-ended (config_lines options) (lines-are options kept))
     ∙ version-first body
-    ∙ ap (after_lines 2 fresh) (sym (append-nil body))
+    ∙ ap (after_lines Two 2 fresh) (sym (append-nil body))
     ∙ run.1

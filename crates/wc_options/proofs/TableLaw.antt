@@ -1,15 +1,15 @@
 -- The names in the tables are read as the options that they name.
-use Rattle.std.proofs.Common.{ℕ, zero, suc, ◌≡◌, ◌≢◌, ◌+◌, ◌<◌, ◌≤◌, Bool, true, false, cond, not, ◌&&◌, ◌||◌, List, [], ◌∷◌, ◌++◌, length, map, take, drop, get_or, set, Option, Some, None, Result, Ok, Err, refl, ap, sym, ◌∙◌, subst, arith, leb}
-use Rattle.std.specs.Prelude.{bytes_eq, option_map, ◌==◌}
+use Rattle.std.proofs.Common.{ℕ, suc, ◌≡◌, true, false, not, ◌&&◌, List, [], ◌∷◌, ◌++◌, length, Some, refl, ap, ◌∙◌, arith, leb}
+use Rattle.std.specs.Prelude.{◌==◌}
 use Rattle.std.specs.List.{list_all, before_first, after_first}
-use Rattle.std.specs.Str.{IsUtf8}
 use Rattle.std.proofs.lemmas.Bool.Decides.{nat_tests}
-use Rattle.std.proofs.lemmas.List.{append_assoc, append-nil}
+use Rattle.std.proofs.lemmas.List.{append_assoc}
 use Rattle.std.proofs.lemmas.Str.{IsUtf8-append}
 use Rattle.wc_options.specs.Config.{is_passed_over, prefix_of}
-use Rattle.wc_options.specs.Names.{Located, AtGlobal, AtServer, located, located_of_server, is_server_name, is_server_byte, server_prefix}
+use Rattle.wc_options.specs.Names.{AtGlobal, AtServer, located, located_of_server, is_server_name, is_server_byte, server_prefix}
 use Rattle.wc_options.specs.Table.{OptionRow, globals, of_server, place_in, row_at}
-use Rattle.wc_options.proofs.LawLemmas.{IsNameAt, is_ascii, text-from_ascii, no_lf, no_blank, no_dot, list_all-append, list_all-weaken, and-first, and-second, not-true}
+use Rattle.wc_options.proofs.ByteLemmas.{is_ascii, text-from_ascii, no_lf, no_blank, no_dot, list_all-append, list_all-weaken, and-first, and-second, not-true}
+use Rattle.wc_options.proofs.LawLemmas.{IsNameAt}
 use Rattle.wc_options.proofs.PartLemmas.{before_first-hit, before_first-miss, after_first-hit, after_first-miss}
 
 -- ---- the options of the program

@@ -1,13 +1,13 @@
 -- The text of options, piece by piece.
-use Rattle.std.proofs.Common.{ℕ, zero, suc, ◌≡◌, ◌+◌, ◌<◌, ◌≤◌, List, [], ◌∷◌, ◌++◌, length, map, take, drop, get_or, Option, Some, None, Ok, refl, ap, sym, ◌∙◌, subst, arith}
+use Rattle.std.proofs.Common.{ℕ, ◌≡◌, ◌+◌, ◌<◌, ◌≤◌, List, [], ◌∷◌, ◌++◌, length, map, drop, get_or, Option, Some, None, refl, ap, sym, ◌∙◌, arith}
 use Rattle.std.specs.List.{flat_map}
 use Rattle.std.proofs.lemmas.List.{append_assoc, append-nil, drop_more, drop_all, get_or_default}
 use Rattle.std.proofs.lemmas.Grind.{flat_map-append}
-use Rattle.wc_options.specs.Config.{config_of, config_text, text_of_lines, lines_of_value, set_line, set_lines, server_lines, version_line}
+use Rattle.wc_options.specs.Config.{config_text, text_of_lines, lines_of_value, set_lines, server_lines}
 use Rattle.wc_options.specs.File.{equals_sign}
-use Rattle.wc_options.specs.Kept.{FitAll, unset_at_first, AreOptionsKept}
 use Rattle.wc_options.specs.Options.{OptionsValue, ServerOptions}
 use Rattle.wc_options.specs.Table.{OptionRow, globals, row_of}
+use Rattle.wc_options.specs.Version.{version_line}
 use Rattle.wc_options.specs.declared.table.Row.{Row}
 
 pub line_written : (text prefix name value : List ℕ) → text ++ prefix ++ name ++ equals_sign ++ value ++ 10 ∷ [] ≡ text ++ (prefix ++ name ++ equals_sign ++ value ++ 10 ∷ [] ++ [])

@@ -6,6 +6,8 @@ pub mod Names
 pub mod Number
 pub mod Options
 pub mod Place
+pub mod Quotes
 pub mod ReadConfig
 pub mod Table
 pub mod Values
+pub mod Version

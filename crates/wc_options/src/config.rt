@@ -1,20 +1,19 @@
 ghost use Rattle.std.specs.Prelude.{◌≡◌, ◌≢◌, ◌<◌, ◌^◌, ◌+◌, ◌∷◌, ◌++◌, [], Ok};
 ghost use Rattle.std.specs.Prelude.{Err, Some, None, IfOk, IfErr, OnOk, OnErr, bytes_eq, take};
-ghost use Rattle.std.specs.Prelude.{codes, drop, length, slice_index_or};
+ghost use Rattle.std.specs.Prelude.{codes, drop, length, option_and_then, slice_index_or};
 ghost use Rattle.std.specs.Str.{is_utf8, IsUtf8};
 ghost use Rattle.wc_options.specs.Config.{config_of, after_line, after_lines, is_passed_over};
-ghost use Rattle.wc_options.specs.Config.{version_line, with_setting};
+ghost use Rattle.wc_options.specs.Config.{setting_in, with_setting};
 ghost use Rattle.wc_options.specs.File.{lines_of, parted};
 ghost use Rattle.wc_options.specs.ReadConfig.{IsBadLine};
 
 use crate::file::{first_line, part_line};
 use crate::options::Options;
+use crate::quotes::unquote;
 use crate::refusal::{ConfigRefused, SetRefused};
+use crate::version::{Version, is_in_quotes, told_version};
 use std::alloc::Global;
 use wc_text::NoMemory;
-
-/// The line that tells the version of the file.
-pub const VERSION_LINE: &[u8] = b"config_version = 1";
 
 /// Why a line is not taken.
 pub(crate) enum LineRefused {
@@ -25,10 +24,17 @@ pub(crate) enum LineRefused {
 /// The options that a file holds.
 ///
 /// Lines are ended by LF, which the last may lack. Empty lines and lines that begin with `#` are
-/// passed over; the first line may tell the version, which is 1. Another line is `name = value`,
-/// parted at the first ` = `, and a repeated name takes the last value. Where a line is not UTF-8,
-/// has no ` = `, names no option, has a value that its option does not take, or would make a 65th
-/// server, the answer is the number of the first such line, and nothing is taken from the file.
+/// passed over. The first line may be `config_version = 1` or `config_version = 2`, and without it
+/// the version is 1. Another line is `name = value`, parted at the first ` = `, and a repeated name
+/// takes the last value.
+///
+/// In version 1 a value is the text as it is. In version 2 a value that begins with `"` ends with
+/// another `"`, and between them `\"` and `\\` are for `"` and `\`, with no other `\` and no other
+/// `"`; another value is the text as it is.
+///
+/// Where a line breaks this, is not UTF-8, has no ` = `, names no option, has a value that its
+/// option does not take, or would make a 65th server, the answer is the number of the first such
+/// line, and nothing is taken from the file.
 #[tactic(auto, using(crate::proofs::ConfigLemmas::config_read))]
 pub fn read_config(alloc: Global, bytes: &[u8]) -> Result<Options, ConfigRefused>
     ensures read { IfOk result (λ options. config_of bytes.now ≡ Ok options) }
@@ -39,12 +45,10 @@ pub fn read_config(alloc: Global, bytes: &[u8]) -> Result<Options, ConfigRefused
         return Err(ConfigRefused::NoMemory);
     };
     match first_line(bytes) {
-        Some((line, rest)) => {
-            if line == VERSION_LINE {
-                return options.read_lines(alloc, 2, rest);
-            }
-            options.read_lines(alloc, 1, bytes)
-        }
+        Some((line, rest)) => match told_version(line) {
+            Some(version) => options.read_lines(alloc, version, 2, rest),
+            None => options.read_lines(alloc, Version::One, 1, bytes),
+        },
         None => Ok(options),
     }
 }
@@ -55,19 +59,20 @@ impl Options {
     fn read_lines(
         mut self,
         alloc: Global,
+        version: Version,
         first: u64,
         bytes: &[u8],
     ) -> Result<Options, ConfigRefused>
         requires { first + length bytes.now < 2 ^ 64 }
-        ensures read { IfOk result (λ options. after_lines first self (lines_of bytes.now)
+        ensures read { IfOk result (λ options. after_lines version first self (lines_of bytes.now)
             ≡ Ok options) }
         ensures bad_line { IfErr result (λ refused. refused ≢ ConfigRefused.NoMemory →
-            IsBadLine refused (after_lines first self (lines_of bytes.now))) }
+            IsBadLine refused (after_lines version first self (lines_of bytes.now))) }
     {
         let mut number = first;
         let mut rest = bytes;
         while let Some((line, others)) = first_line(rest) {
-            match self.take_line(alloc, line) {
+            match self.take_line(alloc, version, line) {
                 Ok(()) => {}
                 Err(LineRefused::Unreadable) => return Err(ConfigRefused::BadLine { line: number }),
                 Err(LineRefused::NoMemory) => return Err(ConfigRefused::NoMemory),
@@ -80,29 +85,55 @@ impl Options {
 
     /// Takes one line of a file.
     #[tactic(auto, using(crate::proofs::ConfigLemmas::lines_taken))]
-    fn take_line(&mut self, alloc: Global, line: &[u8]) -> Result<(), LineRefused>
-        ensures taken { OnOk result (after_line self.old line.now ≡ Some self.new) }
+    fn take_line(&mut self, alloc: Global, version: Version, line: &[u8]) -> Result<(), LineRefused>
+        ensures taken { OnOk result (after_line version self.old line.now ≡ Some self.new) }
         ensures refused { IfErr result (λ refused. refused ≢ LineRefused.NoMemory →
-            after_line self.old line.now ≡ None) }
+            after_line version self.old line.now ≡ None) }
     {
         if is_passed_over(line) {
             return Ok(());
         }
         if is_utf8(line) {
-            return self.take_text(alloc, line);
+            return self.take_text(alloc, version, line);
         }
         Err(LineRefused::Unreadable)
     }
 
-    fn take_text(&mut self, alloc: Global, line: &[u8]) -> Result<(), LineRefused>
+    fn take_text(&mut self, alloc: Global, version: Version, line: &[u8]) -> Result<(), LineRefused>
         requires { IsUtf8 line.now }
-        ensures taken { OnOk result (with_setting self.old (parted line.now) ≡ Some self.new) }
+        ensures taken { OnOk result (with_setting self.old
+            (option_and_then (setting_in version) (parted line.now)) ≡ Some self.new) }
         ensures refused { IfErr result (λ refused. refused ≢ LineRefused.NoMemory →
-            with_setting self.old (parted line.now) ≡ None) }
+            with_setting self.old (option_and_then (setting_in version) (parted line.now))
+            ≡ None) }
     {
         match part_line(line) {
-            Some((name, value)) => self.take_value(alloc, name, value),
+            Some((name, written)) => self.take_written(alloc, version, name, written),
             None => Err(LineRefused::Unreadable),
+        }
+    }
+
+    /// Takes a name and its value as a version has it.
+    fn take_written(
+        &mut self,
+        alloc: Global,
+        version: Version,
+        name: &[u8],
+        written: &[u8],
+    ) -> Result<(), LineRefused>
+        requires { IsUtf8 written.now }
+        ensures taken { OnOk result (with_setting self.old
+            (setting_in version (name.now, written.now)) ≡ Some self.new) }
+        ensures refused { IfErr result (λ refused. refused ≢ LineRefused.NoMemory →
+            with_setting self.old (setting_in version (name.now, written.now)) ≡ None) }
+    {
+        if !is_in_quotes(version, written) {
+            return self.take_value(alloc, name, written);
+        }
+        match unquote(alloc, written) {
+            Ok(Some(value)) => self.take_value(alloc, name, value.as_slice()),
+            Ok(None) => Err(LineRefused::Unreadable),
+            Err(NoMemory) => Err(LineRefused::NoMemory),
         }
     }
 

@@ -5,7 +5,7 @@ use Rattle.wc_options.proofs.options.Options.read_lines.Given as goal
 
 abbrev pub invariant-loop-line : goal.invariant-loop-line
 invariant-loop-line l = record {
-  same : after_lines l.number l.self (lines_of l.rest) ≡ after_lines l.fn.first l.fn.self (lines_of l.fn.bytes);
+  same : after_lines l.version l.number l.self (lines_of l.rest) ≡ after_lines l.version l.fn.first l.fn.self (lines_of l.fn.bytes);
   few : l.number + length l.rest ≤ l.fn.first + length l.fn.bytes;
 }
 

@@ -1,6 +1,7 @@
-use Rattle.std.proofs.Common.{◌≡◌, ◌∙◌, ◌++◌, ◌∷◌, [], List, ℕ, ap}
+use Rattle.std.proofs.Common.{◌∙◌, ◌++◌, ◌∷◌, [], List, ℕ, ap, sym}
 use Rattle.std.specs.List.{flat_map}
-use Rattle.wc_options.specs.Config.{config_of, config_text, text_of_lines, set_lines, server_lines, version_line}
+use Rattle.wc_options.specs.Config.{config_of, text_of_lines, set_lines, server_lines}
+use Rattle.wc_options.specs.Version.{version_line}
 use Rattle.wc_options.specs.Table.{globals}
 use Rattle.wc_options.proofs.RoundTrip.{config_of-config_text}
 use Rattle.wc_options.proofs.WriteLemmas.{config_text-is}
@@ -25,3 +26,6 @@ returns-clause-reads_back c =
     (c.in_ok-append-2.ensures.ok ∙ ap (λ (t : List ℕ). t ++ 10 ∷ []) (c.in_ok-append.ensures.ok ∙ ap (λ (t : List ℕ). t ++ version_line) c.new-text.ensures)))
     ∙ config_text-is c.args.self.now)
     ∙ config_of-config_text c.args.self.now c.in_ok-write_globals.ensures.kept
+
+pub returns-clause-reads_old_back : goal.returns-clause-reads_old_back
+returns-clause-reads_old_back c = λ old e. returns-clause-reads_back c ∙ sym e
