@@ -8,7 +8,10 @@ fn put_dates(out: &mut Sheet, line: &PackedMirrorLine) {
     let usec = line.usec();
     let printed = line.date_printed();
     let usec_printed = line.usec_printed();
-    let written = write!(out.text, " date {date} usec {usec} printed {printed} usec {usec_printed}");
+    let written = write!(
+        out.text,
+        " date {date} usec {usec} printed {printed} usec {usec_printed}"
+    );
     out.note(written);
 }
 
