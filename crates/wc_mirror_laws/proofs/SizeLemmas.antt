@@ -128,9 +128,34 @@ values_short : (buffer : Handle) (line : Line) → buffer.0 < 2 ^ 64 → IsPrint
 unfolding line_values
 values_short buffer line small is = (
   pointer_short buffer.0 small,
-  (number_short (count line.id), (date_short line.date, (number_short (count line.usec), (date_short line.date_printed, (number_short (count line.usec_printed),
-  (level_short (truth line.displayed), (level_short line.notify, (level_short (truth line.highlight),
-  (tags_short line.tags is.few is.tags, (text_short 128 line.prefix is.prefix, (text_short 1024 line.message is.message, tt))))))))))),
+  (
+    number_short (count line.id),
+    (
+      date_short line.date,
+      (
+        number_short (count line.usec),
+        (
+          date_short line.date_printed,
+          (
+            number_short (count line.usec_printed),
+            (
+              level_short (truth line.displayed),
+              (
+                level_short line.notify,
+                (
+                  level_short (truth line.highlight),
+                  (
+                    tags_short line.tags is.few is.tags,
+                    (text_short 128 line.prefix is.prefix, (text_short 1024 line.message is.message, tt)),
+                  ),
+                ),
+              ),
+            ),
+          ),
+        ),
+      ),
+    ),
+  ),
 )
 
 named_short : (notice : Notice) → length notice.full_name ≤ 256 → AreAtMost (named_values notice) (4 ∷ 260 ∷ [])

@@ -44,10 +44,34 @@ values_within : (buffer : Handle) (line : Line) → buffer.0 < 2 ^ 64 → IsPrin
 unfolding line_values
 values_within buffer line small is = (
   value_ptr buffer.0 small,
-  (value_int (count line.id) (count_within line.id), (value_tim (moment line.date) (moment_within line.date),
-  (value_int (count line.usec) (count_within line.usec), (value_tim (moment line.date_printed) (moment_within line.date_printed),
-  (value_int (count line.usec_printed) (count_within line.usec_printed), (value_chr (truth line.displayed) (truth_within line.displayed),
-  (value_chr line.notify is.notify, (value_chr (truth line.highlight) (truth_within line.highlight), (value_texts line.tags, (value_str line.prefix, (value_str line.message, tt)))))))))),
+  (
+    value_int (count line.id) (count_within line.id),
+    (
+      value_tim (moment line.date) (moment_within line.date),
+      (
+        value_int (count line.usec) (count_within line.usec),
+        (
+          value_tim (moment line.date_printed) (moment_within line.date_printed),
+          (
+            value_int (count line.usec_printed) (count_within line.usec_printed),
+            (
+              value_chr (truth line.displayed) (truth_within line.displayed),
+              (
+                value_chr line.notify is.notify,
+                (
+                  value_chr (truth line.highlight) (truth_within line.highlight),
+                  (
+                    value_texts line.tags,
+                    (value_str line.prefix, (value_str line.message, tt)),
+                  ),
+                ),
+              ),
+            ),
+          ),
+        ),
+      ),
+    ),
+  ),
 )
 
 added_within : (buffer : Handle) (line : Line) → buffer.0 < 2 ^ 64 → IsPrinted line → ItemWithin (added_item buffer line)
