@@ -1,0 +1,7 @@
+pub mod Apart
+pub mod Handles
+pub mod Levels
+pub mod MeansLaws
+pub mod Put
+pub mod RoomLaw
+pub mod RowSteps

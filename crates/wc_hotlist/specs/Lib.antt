@@ -1,0 +1,6 @@
+pub mod Counted
+pub mod HotRows
+pub mod Inside
+pub mod Means
+pub mod Pairs
+pub mod Rows
