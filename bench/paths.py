@@ -15,7 +15,10 @@ import time
 
 from ping import log_in, receive
 
-KEYS = "buffer,date,date_printed,displayed,notify_level,highlight,tags_array,prefix,message"
+KEYS = (
+    "buffer,id,date,date_usec,date_printed,date_usec_printed,displayed,notify_level,highlight,"
+    "tags_array,prefix,message"
+)
 OTHERS = ",".join(reversed(KEYS.split(",")))
 LINES = "buffer:gui_buffers(*)/own_lines/first_line(*)/data"
 

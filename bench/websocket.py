@@ -18,7 +18,8 @@ import time
 
 LINES = (
     "hdata buffer:gui_buffers(*)/own_lines/first_line(*)/data "
-    "buffer,date,date_printed,displayed,notify_level,highlight,tags_array,prefix,message"
+    "buffer,id,date,date_usec,date_printed,date_usec_printed,displayed,notify_level,highlight,"
+    "tags_array,prefix,message"
 )
 
 
