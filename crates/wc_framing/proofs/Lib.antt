@@ -1,3 +1,4 @@
+pub mod CutLaws
 pub mod FramingLemmas
 pub mod MessagesLemmas
 pub mod OpeningLemmas

@@ -1,3 +1,4 @@
+pub mod Cut
 pub mod Framing
 pub mod Messages
 pub mod Opening

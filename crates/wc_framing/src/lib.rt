@@ -5,8 +5,10 @@
 #![tactic(auto)]
 
 mod framing;
+mod laws;
 mod messages;
 mod opening;
 
 pub use framing::{Belongs, Framing, feed_piece, next_message};
+pub use laws::frames_cut_anywhere;
 pub use messages::{Framed, put_messages};
