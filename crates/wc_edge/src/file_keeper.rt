@@ -17,14 +17,15 @@ const PRIVATE: u32 = 0o600;
 /// A longer file is not read.
 const SIZE_LIMIT: usize = 16_777_216;
 
-/// The file `weechat.conf` of a folder. A missing file reads as empty, and one of more than
-/// 16,777,216 bytes is not read.
+/// The file `weechat.conf` of a folder. A missing file reads as empty where its folder is there, and
+/// one of more than 16,777,216 bytes is not read.
 ///
 /// The bytes that take its place are first written to a file beside it, which then gets its name,
 /// so that a failure loses nothing. Its owner alone can read either, since the bytes have a password.
 #[derive(Drop)]
 pub struct FileKeeper<'a, R: Files> {
     rt: &'a R,
+    folder: String,
     path: String,
     beside: String,
     faults: u64,
@@ -40,6 +41,7 @@ impl<'a, R: Files> FileKeeper<'a, R> {
         let beside = format!(in alloc; "{folder}/{NAME}.new")?;
         Ok(FileKeeper {
             rt,
+            folder: format!(in alloc; "{folder}")?,
             path,
             beside,
             faults: 0,
@@ -47,14 +49,34 @@ impl<'a, R: Files> FileKeeper<'a, R> {
     }
 }
 
-/// The bytes of a file.
-fn read_file<R: Files>(rt: &R, alloc: Global, path: &str) -> Result<Text, KeepFault> {
-    let mut text = Text::new(alloc);
+/// Whether this is a folder that is there.
+fn is_folder<R: Files>(rt: &R, path: &str) -> bool {
+    match fs::metadata(rt, path) {
+        Ok(found) => found.is_dir(),
+        Err(_) => false,
+    }
+}
+
+/// What is read where a file cannot be opened: nothing, where its folder has no such file.
+fn read_none<R: Files>(
+    rt: &R,
+    alloc: Global,
+    folder: &str,
+    error: &io::Error,
+) -> Result<Text, KeepFault> {
+    if error.kind() == ErrorKind::NotFound && is_folder(rt, folder) {
+        return Ok(Text::new(alloc));
+    }
+    Err(KeepFault::Failed)
+}
+
+/// The bytes of a file of this folder.
+fn read_file<R: Files>(rt: &R, alloc: Global, folder: &str, path: &str) -> Result<Text, KeepFault> {
     let mut file = match fs::open(rt, path) {
         Ok(file) => file,
-        Err(error) if error.kind() == ErrorKind::NotFound => return Ok(text),
-        Err(_) => return Err(KeepFault::Failed),
+        Err(error) => return read_none(rt, alloc, folder, &error),
     };
+    let mut text = Text::new(alloc);
     let mut buffer = [0u8; 8192];
     for _ in 0..SIZE_LIMIT + 2 {
         let Ok(count) = file.read(&mut buffer) else {
@@ -110,7 +132,7 @@ impl<'a, R: Files> Keeper for FileKeeper<'a, R> {
     ghost faults = { λ keeper. keeper.faults };
 
     fn read_all(&mut self, alloc: Global) -> Result<Text, KeepFault> {
-        match read_file(self.rt, alloc, self.path.as_str()) {
+        match read_file(self.rt, alloc, self.folder.as_str(), self.path.as_str()) {
             Ok(text) => Ok(text),
             Err(KeepFault::NoMemory) => Err(KeepFault::NoMemory),
             Err(KeepFault::Failed) => {

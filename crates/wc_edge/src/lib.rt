@@ -4,6 +4,7 @@
 mod file_keeper;
 mod links;
 mod mio_sockets;
+mod misses;
 mod report;
 mod rows;
 mod std_sink;

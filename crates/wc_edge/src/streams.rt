@@ -1,9 +1,12 @@
-ghost use Rattle.std.specs.Prelude.{◌≡◌, ◌<◌, ◌≤◌, length, map, take, IfOk};
+ghost use Rattle.std.specs.Prelude.{◌≡◌, ◌<◌, ◌≤◌, length, map, take, IfOk, IfErr};
+ghost use Rattle.std.specs.IoError.{raw_os_error};
 ghost use Rattle.mio.specs.Events.{items, capacity as events_capacity};
 ghost use Rattle.wc_outside.specs.Happenings.{IsReadWithin, IsPutWithin};
+ghost use Rattle.wc_edge.specs.Misses.{miss_of};
 ghost use Rattle.wc_edge.specs.Rows.{number_of, IsAscending, SourcesReported};
 
 use crate::links::SLOTS;
+use crate::misses::{Miss, miss_of};
 use crate::report::report;
 use crate::rows::Row;
 use mio::event::Event;
@@ -14,7 +17,7 @@ use std::io::{self, ErrorKind, Read, Write};
 use std::net::{Ipv4Addr, Net, SocketAddr};
 use std::random::RandomSource;
 use std::rt::Clock;
-use std::time::{Duration, SystemTime, UNIX_EPOCH};
+use std::time::Duration;
 use wc_outside::{Got, Put, READY_LIMIT, Ready};
 use wc_text::{Address, LinkId};
 
@@ -55,17 +58,20 @@ pub(crate) struct Streams<'a, R: Net + Clock + RandomSource> {
     poll: Poll,
     events: Events,
     listener: Option<TcpListener>,
+    /// Whether connections may wait of which the system told before, so that it tells no more.
+    untold: bool,
     peers: Vec<Peer>,
     ghost room: { events_capacity events ≡ 64 },
     ghost fetched: { length (items events) ≤ 64 },
 }
 
+/// The moment of a clock, in milliseconds since 1970; 0 where it is set to a time before.
 fn moment<R: Clock>(rt: &R) -> io::Result<u64> {
-    let now = SystemTime::now(rt)?;
-    let since = now
-        .duration_since(UNIX_EPOCH)
-        .unwrap_or(Duration::from_millis(0));
-    Ok(u64::try_from(since.as_millis()).unwrap_or(u64::MAX))
+    match rt.since_1970() {
+        Ok(since) => Ok(u64::try_from(since.as_millis()).unwrap_or(u64::MAX)),
+        Err(error) if error.kind() == ErrorKind::InvalidData => Ok(0),
+        Err(error) => Err(error),
+    }
 }
 
 impl<'a, R: Net + Clock + RandomSource> Streams<'a, R> {
@@ -75,6 +81,7 @@ impl<'a, R: Net + Clock + RandomSource> Streams<'a, R> {
             poll: Poll::new(rt)?,
             events: Events::with_capacity(alloc, READY_LIMIT)?,
             listener: None,
+            untold: false,
             peers: Vec::with_capacity(alloc, SLOTS)?,
         })
     }
@@ -90,11 +97,28 @@ impl<'a, R: Net + Clock + RandomSource> Streams<'a, R> {
         Ok(())
     }
 
+    /// Has the system tell once more of connections that wait.
+    fn renew(&mut self) -> io::Result<()> {
+        let Some(listener) = &mut self.listener else {
+            return Ok(());
+        };
+        let token = mio::Token(LISTENER);
+        self.poll
+            .registry()
+            .reregister(listener, token, Interest::READABLE)
+    }
+
     /// Waits until a source becomes ready or the time is over, and gives the moment. A signal ends
     /// it early, with no source. Where the clock fails, what was fetched is lost.
+    ///
+    /// Connections that were left for want of files or memory are told of by the next wait, and not
+    /// by this one, which would then not rest while there is such a want.
     pub(crate) fn wait(&mut self, timeout_ms: u64) -> io::Result<u64> {
         let timeout = Duration::from_millis(timeout_ms);
         self.poll.poll(&mut self.events, Some(timeout))?;
+        if self.untold {
+            self.untold = self.renew().is_err();
+        }
         moment(self.rt)
     }
 
@@ -107,37 +131,38 @@ impl<'a, R: Net + Clock + RandomSource> Streams<'a, R> {
         report(&self.events, rows, &mut self.peers, listening, ready);
     }
 
-    /// The next connection, where one waits. One that was given up meanwhile is passed over.
-    fn next_stream(&mut self) -> io::Result<Option<TcpStream>> {
+    /// The next connection, where one waits and there is a file for it. Those that are gone are
+    /// passed over, up to 512 of them. It fails only where the listener does.
+    fn next_stream(&mut self) -> io::Result<Option<TcpStream>>
+        ensures { IfErr result (λ error. miss_of (raw_os_error error) ≡ Miss.Fault) }
+    {
         let Some(listener) = &self.listener else {
             return Ok(None);
         };
-        for _ in 0..u64::MAX {
+        for _ in 0..SLOTS {
             match listener.accept() {
                 Ok((stream, _)) => return Ok(Some(stream)),
-                Err(error) if error.kind() == ErrorKind::WouldBlock => return Ok(None),
-                Err(error) if error.kind() == ErrorKind::ConnectionAborted => {}
-                Err(error) => return Err(error),
+                Err(error) => match miss_of(&error) {
+                    Miss::Nobody => return Ok(None),
+                    Miss::Gone => {}
+                    Miss::Want => break,
+                    Miss::Fault => return Err(error),
+                },
             }
         }
+        self.untold = true;
         Ok(None)
     }
 
-    /// Closes the connections that wait, up to 512. Where more may wait the listener is registered
-    /// anew, so that the system tells of it once more.
+    /// Closes the connections that wait, up to 512. Where more may wait the system tells of them
+    /// once more.
     pub(crate) fn refuse(&mut self) -> io::Result<()> {
         for _ in 0..SLOTS {
             if self.next_stream()?.is_none() {
                 return Ok(());
             }
         }
-        let Some(listener) = &mut self.listener else {
-            return Ok(());
-        };
-        let token = mio::Token(LISTENER);
-        self.poll
-            .registry()
-            .reregister(listener, token, Interest::READABLE)
+        self.renew()
     }
 
     /// Keeps a stream under this link, and has the system report both of its directions.
@@ -156,14 +181,18 @@ impl<'a, R: Net + Clock + RandomSource> Streams<'a, R> {
         Ok(())
     }
 
-    /// Keeps the next connection under this link, and gives its nonce.
+    /// Keeps the next connection under this link, and gives its nonce. One for whose events the
+    /// system has no room is closed.
     pub(crate) fn accept(&mut self, link: LinkId) -> io::Result<Option<[u8; 16]>> {
         let Some(stream) = self.next_stream()? else {
             return Ok(None);
         };
         let mut nonce = [0u8; 16];
         self.rt.fill_bytes(&mut nonce)?;
-        self.keep(stream, link)?;
+        if self.keep(stream, link).is_err() {
+            self.untold = true;
+            return Ok(None);
+        }
         Ok(Some(nonce))
     }
 

@@ -73,10 +73,19 @@ fn crowd(stage: &mut Stage<'_>) -> io::Result<()> {
     Ok(())
 }
 
+/// Once a link is closed, the next client is taken in its place, under a number of its own.
+fn replace_one(stage: &mut Stage<'_>) -> io::Result<()> {
+    stage.close(1);
+    let _client = connect(stage.rt)?;
+    stage.welcome();
+    Ok(())
+}
+
 fn play_clients(stage: &mut Stage<'_>) -> io::Result<()> {
     meet(stage, MANY, MANY)?;
     meet(stage, SLOTS, SLOTS - MANY)?;
     crowd(stage)?;
+    replace_one(stage)?;
     stage.end()
 }
 

@@ -49,10 +49,19 @@ fn show_mode(rt: &HostRuntime, folder: &str) -> io::Result<()> {
     print!(rt; "mode {mode:o}\n")
 }
 
-fn replace_in_no_folder(rt: &HostRuntime) -> io::Result<()> {
+fn keep_in_no_folder(rt: &HostRuntime) -> io::Result<()> {
     let mut keeper = FileKeeper::new(rt, rt.alloc(), "/tmp/wc_edge_no_such_folder")?;
+    print!(rt; "read in a folder that is not there: ")?;
+    show_contents(rt, &mut keeper)?;
     let is_replaced = keeper.replace(b"x").is_ok();
     print!(rt; "replaced in a folder that is not there: {is_replaced}\n")
+}
+
+/// What is not a folder has no file that could be read as empty.
+fn keep_in_a_file(rt: &HostRuntime) -> io::Result<()> {
+    let mut keeper = FileKeeper::new(rt, rt.alloc(), "/dev/null")?;
+    print!(rt; "read in what is no folder: ")?;
+    show_contents(rt, &mut keeper)
 }
 
 pub fn play(rt: &HostRuntime) -> io::Result<()> {
@@ -61,5 +70,6 @@ pub fn play(rt: &HostRuntime) -> io::Result<()> {
     replace_twice(rt, folder.as_str())?;
     show_mode(rt, folder.as_str())?;
     fs::remove_dir_all(rt, folder.as_str())?;
-    replace_in_no_folder(rt)
+    keep_in_no_folder(rt)?;
+    keep_in_a_file(rt)
 }

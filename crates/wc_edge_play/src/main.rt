@@ -3,6 +3,8 @@
 //! Nothing is claimed here: what is printed is compared.
 #![tactic(auto)]
 
+mod arrival_story;
+mod clock_story;
 mod connect_story;
 mod crowd_story;
 mod edge_story;
@@ -28,6 +30,8 @@ fn main(rt: HostRuntime) -> io::Result<()> {
     edge_story::play(&rt)?;
     crowd_story::play(&rt)?;
     connect_story::play(&rt)?;
+    arrival_story::play(&rt)?;
+    clock_story::play(&rt)?;
     keeper_story::play(&rt)?;
     print_to_the_sink(&rt)
 }
