@@ -75,7 +75,7 @@ impl Client {
     }
 
     fn with(alloc: Global, link: LinkId, limit: u32, options: Options) -> Result<Client, NoMemory> {
-        match Session::new(alloc, link, *b"abcdbcdecdefdefg", &options) {
+        match Session::new(alloc, link, *b"abcdbcdecdefdefg") {
             Ok(session) => Client::of(alloc, limit, options, session),
             Err(NoMemory) => Err(NoMemory),
         }
