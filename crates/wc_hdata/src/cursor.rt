@@ -212,6 +212,7 @@ impl<'b, 'a> Cursor<'b, 'a> {
     }
 
     /// The next place. None where no more are to come.
+    #[inline(always)]
     pub(crate) fn next(&mut self) -> Option<Place<'a>>
         ensures { MatchOption result ((self.old ≡ []) × (self.new ≡ []))
             (λ place. self.old ≡ place_of place ∷ self.new) }

@@ -17,7 +17,11 @@ use wc_objects::parts::put_pointer;
 
 // ---- values
 
+// What gives a value of a line and what takes it are inlined into the loops over keys, and these
+// loops are functions of their own, so that what they use stays in registers.
+
 /// What is left after the value of a place that a key names.
+#[inline(always)]
 #[tactic(auto, unfolding(crate::specs::WalkBytes::key_bytes))]
 fn room_after_value(room: usize, lists: &Lists<'_>, place: Place<'_>, key: Key) -> Option<usize>
     requires { IsKept lists.now (place_of place) }
@@ -30,6 +34,7 @@ fn room_after_value(room: usize, lists: &Lists<'_>, place: Place<'_>, key: Key) 
 }
 
 /// Puts the value of a place that a key names.
+#[inline(always)]
 #[tactic(auto, unfolding(crate::specs::WalkBytes::key_bytes))]
 fn put_value(out: &mut BytesMut, lists: &Lists<'_>, place: Place<'_>, key: Key)
     requires kept { IsKept lists.now (place_of place) }
@@ -43,6 +48,7 @@ fn put_value(out: &mut BytesMut, lists: &Lists<'_>, place: Place<'_>, key: Key)
 }
 
 /// What is left after the values of a place that the keys name.
+#[inline(never)]
 pub(crate) fn room_after_values(
     room: usize,
     lists: &Lists<'_>,
@@ -59,6 +65,7 @@ pub(crate) fn room_after_values(
     Some(left)
 }
 
+#[inline(always)]
 fn put_values(out: &mut BytesMut, lists: &Lists<'_>, place: Place<'_>, keys: &[Key])
     requires kept { IsKept lists.now (place_of place) }
     requires room { HasRoomFor out.old (keys_bytes lists.now.world (place_of place) keys.now) }
@@ -71,6 +78,7 @@ fn put_values(out: &mut BytesMut, lists: &Lists<'_>, place: Place<'_>, keys: &[K
 
 // ---- pointers
 
+#[inline(always)]
 fn put_pointers(out: &mut BytesMut, pointers: &[u64])
     requires { HasRoomFor out.old (pointers_bytes pointers.now) }
     ensures { Puts out.old out.new (pointers_bytes pointers.now) }
@@ -83,6 +91,7 @@ fn put_pointers(out: &mut BytesMut, pointers: &[u64])
 // ---- items
 
 /// Puts the item of a place, with the pointers of those that led to it and its own.
+#[inline(never)]
 pub(crate) fn put_item(
     out: &mut BytesMut,
     lists: &Lists<'_>,

@@ -39,6 +39,7 @@ fn of_line<'a>(line: &'a PackedLine, key: Key) -> Option<LentValue<'a>>
 }
 
 /// The value of what a line says that a key names. None for other keys than those of lines' data.
+#[inline(always)]
 fn of_data<'a>(held: HeldLine<'a>, key: Key) -> Option<LentValue<'a>>
     ensures { option_map object_of result ≡ of_data key (held_line held.entry) }
 {
@@ -46,6 +47,7 @@ fn of_data<'a>(held: HeldLine<'a>, key: Key) -> Option<LentValue<'a>>
 }
 
 /// The value of a place that a key names. None for other keys than those of its element.
+#[inline(always)]
 #[tactic(auto, unfolding(crate::specs::Values::value_of))]
 pub(crate) fn value_of<'a>(
     lists: &'a Lists<'_>,

@@ -128,6 +128,7 @@ impl<'b, 'a> Walker<'b, 'a> {
 
 /// Takes the next place of the last element, and goes on from it where steps are left. The place,
 /// where it is one to which the path leads.
+#[inline(always)]
 fn go_on<'b, 'a>(
     lists: &'b Lists<'a>,
     steps: &[Step],
