@@ -29,6 +29,7 @@ fn moment(date: u64) -> i64
 }
 
 /// The value of a line of a buffer under a key. None under a key that is of no line.
+#[inline(always)]
 pub fn line_value<'a>(buffer: Handle, line: &'a PackedLine, key: Key) -> Option<LentValue<'a>>
     ensures { option_map object_of result ≡ line_value buffer line.now key }
 {

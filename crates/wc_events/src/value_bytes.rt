@@ -142,8 +142,11 @@ fn put_table(out: &mut BytesMut, vars: &Vars)
 
 // ---- values
 
+// These two and what gives a value are inlined where they are called. So a value is not laid in
+// memory by the one and loaded by the other, which is most of what a short value costs.
 impl<'a> LentValue<'a> {
     /// What is left of a room after the value. None where it is longer.
+    #[inline(always)]
     #[tactic(auto, using(crate::proofs::ValueBytes::value_facts))]
     pub fn room_after(self, room: usize) -> Option<usize>
         ensures { FitsIn result room (value_bytes (object_of self.entry)) }
@@ -160,6 +163,7 @@ impl<'a> LentValue<'a> {
     }
 
     /// Puts the value after the bytes that are in a buffer.
+    #[inline(always)]
     #[tactic(auto, using(crate::proofs::ValueBytes::value_facts))]
     pub fn put(self, out: &mut BytesMut)
         requires { HasRoomFor out.old (value_bytes (object_of self)) }
