@@ -41,6 +41,7 @@ fn mark_code(mark: Mark) -> i8
 
 impl<'a> LentNick<'a> {
     /// One of a list.
+    #[inline(always)]
     pub(crate) fn of(item: &'a Item) -> LentNick<'a>
         ensures mark { result.mark ≡ None }
         ensures item { item_lent result ≡ item.now }
@@ -87,6 +88,7 @@ impl<'a> LentNick<'a> {
     }
 
     /// The value under a key. None under a key that it does not have.
+    #[inline(always)]
     pub(crate) fn value(self, key: Key) -> Option<LentValue<'a>>
         ensures { option_map object_of result ≡ lent_value self.entry key }
     {

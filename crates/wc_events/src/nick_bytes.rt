@@ -18,6 +18,9 @@ use wc_nicklist::Item;
 use wc_objects::parts::{put_pointer, room_after_pointer};
 use wc_text::Handle;
 
+// What makes an item, gives its values and takes them is inlined up to the loops over items. So the
+// item is not laid in memory, and neither are its values.
+
 // ---- what it leaves of a room
 
 /// What is left of the room of a message, after how many items.
@@ -27,6 +30,7 @@ pub(crate) struct Left {
     pub items: usize,
 }
 
+#[inline(always)]
 #[tactic(auto, unfolding(crate::specs::NickBytes::key_bytes))]
 fn room_after_value(room: usize, nick: LentNick<'_>, key: Key) -> Option<usize>
     ensures { FitsIn result room (key_bytes nick.entry key) }
@@ -37,6 +41,7 @@ fn room_after_value(room: usize, nick: LentNick<'_>, key: Key) -> Option<usize>
     }
 }
 
+#[inline(always)]
 fn room_after_values(room: usize, nick: LentNick<'_>, keys: &[Key]) -> Option<usize>
     ensures { FitsIn result room (flat_map (key_bytes nick.entry) keys.now) }
 {
@@ -48,6 +53,7 @@ fn room_after_values(room: usize, nick: LentNick<'_>, keys: &[Key]) -> Option<us
 }
 
 /// What is left after an item with the values of these keys.
+#[inline(always)]
 fn room_after_told(room: usize, buffer: Handle, nick: LentNick<'_>, keys: &[Key]) -> Option<usize>
     ensures { FitsIn result room (told_bytes buffer nick.entry keys.now) }
 {
@@ -57,6 +63,7 @@ fn room_after_told(room: usize, buffer: Handle, nick: LentNick<'_>, keys: &[Key]
 }
 
 /// What is left after an item of a list.
+#[inline(always)]
 fn room_after_lent(left: Left, buffer: Handle, nick: LentNick<'_>, keys: &[Key]) -> Option<Left>
     requires { left.items + left.room < 2 ^ 32 }
     ensures { MatchOption result (left.room < length (told_bytes buffer nick.entry keys.now))
@@ -69,6 +76,7 @@ fn room_after_lent(left: Left, buffer: Handle, nick: LentNick<'_>, keys: &[Key])
 }
 
 /// What is left after a group or a nick of a list.
+#[inline(always)]
 pub(crate) fn room_after_nick(left: Left, buffer: Handle, item: &Item) -> Option<Left>
     requires { left.items + left.room < 2 ^ 32 }
     ensures { MatchOption result (IsOver left (nick_item buffer item.now ∷ []))
@@ -97,6 +105,7 @@ pub(crate) fn room_after_diff(left: Left, buffer: Handle, diff: &DiffItem) -> Op
 
 // ---- it put after the bytes that are in a buffer
 
+#[inline(always)]
 #[tactic(auto, unfolding(crate::specs::NickBytes::key_bytes))]
 fn put_value(out: &mut BytesMut, nick: LentNick<'_>, key: Key)
     requires { HasRoomFor out.old (key_bytes nick key) }
@@ -108,6 +117,7 @@ fn put_value(out: &mut BytesMut, nick: LentNick<'_>, key: Key)
     }
 }
 
+#[inline(always)]
 fn put_values(out: &mut BytesMut, nick: LentNick<'_>, keys: &[Key])
     requires { HasRoomFor out.old (flat_map (key_bytes nick) keys.now) }
     ensures { Puts out.old out.new (flat_map (key_bytes nick.entry) keys.now) }
@@ -118,6 +128,7 @@ fn put_values(out: &mut BytesMut, nick: LentNick<'_>, keys: &[Key])
 }
 
 /// Puts an item with the values of these keys.
+#[inline(always)]
 fn put_told(out: &mut BytesMut, buffer: Handle, nick: LentNick<'_>, keys: &[Key])
     requires { HasRoomFor out.old (told_bytes buffer nick keys.now) }
     ensures { Puts out.old out.new (told_bytes buffer nick.entry keys.now) }
@@ -128,6 +139,7 @@ fn put_told(out: &mut BytesMut, buffer: Handle, nick: LentNick<'_>, keys: &[Key]
 }
 
 /// Puts a group or a nick of a list.
+#[inline(always)]
 pub(crate) fn put_nick(out: &mut BytesMut, buffer: Handle, item: &Item)
     requires { HasRoomFor out.old (items_bytes (nick_item buffer item.now ∷ [])) }
     ensures { Puts out.old out.new (items_bytes (nick_item buffer item.now ∷ [])) }
