@@ -18,6 +18,8 @@ use crate::variable::Variable;
 use wc_text::Handle;
 
 /// The places to which a step leads from one. No memory is taken.
+// Inlined, so that the places are made where they are kept, and are not copied there.
+#[inline(always)]
 #[tactic(auto, unfolding(crate::specs::Steps::reach))]
 pub(crate) fn reach<'b, 'a>(lists: &'b Lists<'a>, step: Step, place: Place<'a>) -> Cursor<'b, 'a>
     requires kept { IsKept lists.now (place_of place) }
