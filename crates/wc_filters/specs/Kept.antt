@@ -29,7 +29,11 @@ flag_of name filters = option_map (λ f. f.enabled) (find (λ f. is_named name f
 -- a filter as it is added
 abbrev pub new_filter : List ℕ → List ℕ → List ℕ → List ℕ → Filter
 new_filter name buffers tags pattern = record {
-  name = name; buffers = buffers; tags = tags; pattern = pattern; enabled = true
+  name = name;
+  buffers = buffers;
+  tags = tags;
+  pattern = pattern;
+  enabled = true;
 }
 
 -- why a filter is not added, in this order, if it is not
@@ -37,7 +41,7 @@ abbrev pub refusal_of : Oracle → List Filter → List ℕ → List ℕ → Opt
 refusal_of oracle filters name pattern =
     if has_name name filters then Some refused.NameTaken else (
     if is_fine_by oracle (search_of pattern) then (
-      if nat_lt (length filters) 256 then None else Some refused.TooMany)
+    if nat_lt (length filters) 256 then None else Some refused.TooMany)
     else Some refused.BadPattern)
 
 -- Only want of memory comes of itself.

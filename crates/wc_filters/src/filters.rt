@@ -1,7 +1,7 @@
 ghost use Rattle.std.specs.Prelude.{◌≡◌, ◌++◌, ◌∷◌, [], IfOk, OnOk, OnErr, IfErr, IsTrue, map};
 ghost use Rattle.std.specs.Iterator.{YieldsFirstRef, item_count};
 ghost use Rattle.std.specs.Str.{IsUtf8};
-ghost use Rattle.wc_eval.specs.Verdicts.{Oracle, Agrees, Stay};
+ghost use Rattle.wc_eval.specs.Verdicts.{Oracle, Agrees, Stay, VerdictsView};
 ghost use Rattle.wc_lines.specs.LineText.{HasUtf8Texts};
 ghost use Rattle.wc_filters.specs.Hides.{hides, is_hider};
 ghost use Rattle.wc_filters.specs.Kept.{has_name, without, with_flag, flag_of, new_filter};
@@ -92,6 +92,8 @@ impl Filters {
     pub fn del(&mut self, name: &Text) -> bool
         ensures filters { self.new ≡ without name.now self.old }
         ensures found { result ≡ has_name name.now self.old }
+        ensures fine { (verdicts : VerdictsView) → AreFine verdicts self.old →
+            AreFine verdicts self.new }
     {
         let found = is_taken(self.rows.as_slice(), name);
         drop_named(&mut self.rows, name);
@@ -102,6 +104,8 @@ impl Filters {
     pub fn enable(&mut self, name: &Text, on: bool) -> bool
         ensures filters { self.new ≡ map (with_flag name.now on) self.old }
         ensures found { result ≡ has_name name.now self.old }
+        ensures fine { (verdicts : VerdictsView) → AreFine verdicts self.old →
+            AreFine verdicts self.new }
     {
         let found = is_taken(self.rows.as_slice(), name);
         enable(self.rows.as_mut_slice(), name, on);
@@ -155,7 +159,13 @@ impl Filters {
             prefix: line.prefix(),
             message: line.message(),
         };
-        hides(self.alloc, verdicts, self.rows.as_slice(), full_name, &parts)
+        hides(
+            self.alloc,
+            verdicts,
+            self.rows.as_slice(),
+            full_name,
+            &parts,
+        )
     }
 
     /// Whether some filter hides a line of these texts in the buffer of this full name.
@@ -178,7 +188,13 @@ impl Filters {
             prefix,
             message,
         };
-        hides(self.alloc, verdicts, self.rows.as_slice(), full_name, &parts)
+        hides(
+            self.alloc,
+            verdicts,
+            self.rows.as_slice(),
+            full_name,
+            &parts,
+        )
     }
 }
 
@@ -196,7 +212,7 @@ fn drop_named(rows: &mut Vec<Row>, name: &Text)
 
 fn push(rows: &mut Vec<Row>, row: Row) -> Result<(), NoMemory>
     ensures ok { OnOk result (rows.new.items ≡ rows.old.items ++ row ∷ []) }
-    ensures err { OnErr result (rows.new ≡ rows.old) }
+    ensures err { OnErr result (rows.new.items ≡ rows.old.items) }
 {
     match rows.push(row) {
         Ok(()) => Ok(()),

@@ -33,7 +33,9 @@ impl<'a> Tags<'a> {
         ensures { result ≡ is_shielded (tags_in self.entry) }
     {
         match self {
-            Tags::Listed(tags) => tags.iter().any(|tag| tag.as_slice() == b"no_filter".as_slice()),
+            Tags::Listed(tags) => tags
+                .iter()
+                .any(|tag| tag.as_slice() == b"no_filter".as_slice()),
             Tags::Packed(line) => packed_shield(line),
         }
     }

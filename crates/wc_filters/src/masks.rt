@@ -93,7 +93,8 @@ fn item_holds(item: &[u8], tags: Tags<'_>) -> bool
 fn masks_hold(item: &[u8], tags: Tags<'_>) -> bool
     ensures { result ≡ masks_hold item.now (tags_in tags.entry) }
 {
-    item.split(|b| *b == b'+').all(|mask| mask_holds(mask, tags))
+    item.split(|b| *b == b'+')
+        .all(|mask| mask_holds(mask, tags))
 }
 
 fn mask_holds(mask: &[u8], tags: Tags<'_>) -> bool

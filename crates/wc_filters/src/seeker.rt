@@ -106,7 +106,7 @@ fn sieves<'a>(
 {
     let mut sieves = Vec::new(alloc);
     let mut rest = rows;
-    while let Some((row, others)) = rest.split_first() {
+    while let [row, others @ ..] = rest {
         put(alloc, &mut sieves, verdicts, row, full_name)?;
         rest = others;
     }

@@ -7,6 +7,6 @@ use Rattle.wc_filters.proofs.line_parts.packed_has.Goals as goal
 
 pub returns : goal.returns
 returns c =
-    any_from_yields_List (λ tag. matches_of true c.args.mask.now tag) _ _ _ c.any.ensures.ran
-    (YieldsList-from_first (λ x. x.now) tags_left c.args.line.now.tags c.tags.ensures)
+    any_from_yields_List (λ tag. matches_of true c.args.mask.now tag) c.any.new.self _ _ c.any.ensures.ran
+    (YieldsList-from_first (λ x. x.now) tags_left {s = c.tags.result} c.args.line.now.tags c.tags.ensures)
     (λ x b q k. search (rules, tests))

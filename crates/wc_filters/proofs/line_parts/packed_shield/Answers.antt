@@ -8,6 +8,6 @@ use Rattle.wc_filters.proofs.line_parts.packed_shield.Goals as goal
 
 pub returns : goal.returns
 returns c =
-    any_from_yields_List (λ tag. bytes_eq tag (codes "no_filter")) _ _ _ c.any.ensures.ran
-    (YieldsList-from_first (λ x. x.now) tags_left c.args.line.now.tags c.tags.ensures)
+    any_from_yields_List (λ tag. bytes_eq tag (codes "no_filter")) c.any.new.self _ _ c.any.ensures.ran
+    (YieldsList-from_first (λ x. x.now) tags_left {s = c.tags.result} c.args.line.now.tags c.tags.ensures)
     (λ x b q k. search (rules, tests))
