@@ -1,0 +1,3 @@
+pub mod FilterLemmas
+pub mod HalfLemmas
+pub mod TabLemmas

@@ -1,0 +1,106 @@
+ghost use Rattle.std.specs.Prelude.{◌≡◌, IfOk};
+ghost use Rattle.wc_filters.specs.Hides.{concerns, takes};
+ghost use Rattle.wc_filters.specs.Kept.{is_named, with_flag, new_filter};
+ghost use Rattle.wc_filters.specs.Parts.{tags_in};
+ghost use Rattle.wc_filters.specs.Patterns.{search_of};
+
+use crate::filter::Filter;
+use crate::line_parts::Tags;
+use crate::masks::{buffers_match, tags_match};
+use crate::search::Search;
+use std::alloc::Global;
+use std::marker::Model;
+use wc_text::{NoMemory, Text};
+
+/// A filter with its pattern read. Contracts see the filter.
+#[derive(Drop)]
+pub(crate) struct Row {
+    own: Filter,
+    search: Search,
+}
+
+impl Model for Row {
+    ghost use Rattle.wc_filters.specs.declared.filter.Filter.{Filter};
+
+    ghost Value = { Filter };
+
+    ghost use Rattle.std.specs.Prelude.{◌≡◌};
+    ghost use Rattle.wc_filters.specs.Patterns.{search_of};
+
+    ghost view = { λ r. r.own };
+
+    ghost invariant = { λ r. r.search ≡ search_of r.own.pattern };
+}
+
+impl Row {
+    /// A filter that is enabled, of which the pattern asks this.
+    pub(crate) fn new(
+        alloc: Global,
+        name: &Text,
+        buffers: &Text,
+        tags: &Text,
+        pattern: &Text,
+        search: Search,
+    ) -> Result<Row, NoMemory>
+        requires { search ≡ search_of pattern.now }
+        ensures { IfOk result (λ row. row
+            ≡ new_filter name.now buffers.now tags.now pattern.now) }
+    {
+        let own = Filter {
+            name: name.copy(alloc)?,
+            buffers: buffers.copy(alloc)?,
+            tags: tags.copy(alloc)?,
+            pattern: pattern.copy(alloc)?,
+            enabled: true,
+        };
+        Ok(Row { own, search })
+    }
+
+    pub(crate) fn name(&self) -> &Text
+        ensures { result.now ≡ self.now.name }
+    {
+        &self.own.name
+    }
+
+    pub(crate) fn is_named(&self, name: &Text) -> bool
+        ensures { result ≡ is_named name.now self.now }
+    {
+        self.own.name.as_slice() == name.as_slice()
+    }
+
+    pub(crate) fn is_enabled(&self) -> bool
+        ensures { result ≡ self.now.enabled }
+    {
+        self.own.enabled
+    }
+
+    /// Enables or disables the filter, if it has this name.
+    pub(crate) fn enable(&mut self, name: &Text, on: bool)
+        ensures { self.new ≡ with_flag name.now on self.old }
+    {
+        if self.is_named(name) {
+            self.own.enabled = on;
+        }
+    }
+
+    /// What the pattern asks.
+    pub(crate) fn search(&self) -> &Search
+        ensures { result.now ≡ search_of self.now.pattern }
+    {
+        &self.search
+    }
+
+    /// Whether it may hide lines of the buffer of this full name.
+    pub(crate) fn concerns(&self, full_name: &[u8]) -> bool
+        ensures { result ≡ concerns full_name.now self.now }
+    {
+        self.own.enabled && buffers_match(self.own.buffers.as_slice(), full_name)
+    }
+
+    /// Whether it may hide a line with these tags.
+    pub(crate) fn takes(&self, tags: Tags<'_>) -> bool
+        ensures { result ≡ takes (tags_in tags.entry) self.now }
+    {
+        tags_match(self.own.tags.as_slice(), tags) && !tags.shield()
+    }
+}
