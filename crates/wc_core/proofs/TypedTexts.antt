@@ -16,7 +16,7 @@ use Rattle.wc_irc_words.specs.declared.command_word.CommandWord.{CommandWord}
 use Rattle.wc_irc_words.specs.declared.command_word.CommandWord.TheVariants as words
 use Rattle.wc_irc_words.specs.TypedSeen.{asked_with, word_named}
 use Rattle.wc_irc_words.specs.Typed.{ServerCommand, AddsServer, DeletesServer, Connects, Disconnects, Joins, Parts, Says, Notices, Queries, Does, Renames, SetsTopic, Kicks, SetsModes, AsksNames, Quotes, Talks, Wrong}
-use Rattle.wc_irc_words.specs.Typed.{without_words, one_word, some_text, is_target, are_mode_words, tls_words, adds_with, server_add, server_command, disconnect_command, command_of, slash_command, asked_of}
+use Rattle.wc_irc_words.specs.Typed.{without_words, one_word, some_text, is_target, query_with, are_mode_words, tls_words, adds_with, server_add, server_command, disconnect_command, command_of, slash_command, asked_of}
 use Rattle.wc_irc_words.proofs.TypedLemmas.{asked_by, command_named}
 use Rattle.wc_core.specs.ServerTyped.{HasTextValue}
 use Rattle.wc_core.proofs.TypedLemmas.{ascii_text}
@@ -82,12 +82,16 @@ adds_end : (text : List ℕ) → AddsText (disconnect_command text)
 adds_end [] = tt
 adds_end (b ∷ text) = adds_one (codes "disconnect") (λ name. Disconnects (Some name)) (b ∷ text) (λ word. tt)
 
+adds_query : (nick said : List ℕ) → AddsText (query_with nick said)
+adds_query nick [] = tt
+adds_query nick (b ∷ said) = tt
+
 adds_word : (word : CommandWord) (text : List ℕ) → IsLine text → AddsText (asked_with word text)
 adds_word words.Join text line = adds_one (codes "join") (λ c. Joins c) text (λ word. tt)
 adds_word words.Part text line = tt
 adds_word words.Msg text line = adds_if (is_target (word_of text) && is_filled (rest_of text)) (Says (word_of text) (rest_of text)) (Wrong (codes "msg")) tt tt
 adds_word words.Notice text line = adds_if (is_target (word_of text) && is_filled (rest_of text)) (Notices (word_of text) (rest_of text)) (Wrong (codes "notice")) tt tt
-adds_word words.Query text line = adds_if (is_target (word_of text)) (one_word (codes "query") (λ n. Queries n) text) (Wrong (codes "query")) (adds_one (codes "query") (λ n. Queries n) text (λ word. tt)) tt
+adds_word words.Query text line = adds_if (is_target (word_of text)) (query_with (word_of text) (rest_of text)) (Wrong (codes "query")) (adds_query (word_of text) (rest_of text)) tt
 adds_word words.Me text line = adds_some (codes "me") (λ deed. Does deed) text tt
 adds_word words.Nick text line = adds_one (codes "nick") (λ n. Renames n) text (λ word. tt)
 adds_word words.Topic text line = adds_some (codes "topic") (λ topic. SetsTopic topic) text tt

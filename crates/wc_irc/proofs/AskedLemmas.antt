@@ -16,8 +16,8 @@ use Rattle.wc_irc_texts.specs.Pieces.{is_bare}
 use Rattle.wc_irc_words.specs.declared.command_word.CommandWord.{CommandWord}
 use Rattle.wc_irc_words.specs.declared.command_word.CommandWord.TheVariants as words
 use Rattle.wc_irc_words.specs.TypedSeen.{asked_with, word_named}
-use Rattle.wc_irc_words.specs.Typed.{ServerCommand, DeletesServer, Connects, Disconnects, Joins, Says, Notices, Queries, Does, Renames, SetsTopic, Kicks, SetsModes, AsksNames, Quotes, Talks, Wrong}
-use Rattle.wc_irc_words.specs.Typed.{without_words, one_word, some_text, is_target, one_target, target_and_text, kick_command, are_mode_words, ends_at_colon, mode_command, tls_words, adds_with, server_add, server_command, disconnect_command, command_of, slash_command, asked_of}
+use Rattle.wc_irc_words.specs.Typed.{ServerCommand, DeletesServer, Connects, Disconnects, Joins, Says, Notices, Does, Renames, SetsTopic, Kicks, SetsModes, AsksNames, Quotes, Talks, Wrong}
+use Rattle.wc_irc_words.specs.Typed.{without_words, one_word, some_text, is_target, query_command, query_with, target_and_text, kick_command, are_mode_words, ends_at_colon, mode_command, tls_words, adds_with, server_add, server_command, disconnect_command, command_of, slash_command, asked_of}
 use Rattle.wc_irc.proofs.LineTextLemmas.{line_word, line_rest, line_tail}
 use Rattle.wc_irc_texts.proofs.PieceLemmas.{bare_word, bare_line, no_colon}
 use Rattle.wc_irc_words.proofs.TypedLemmas.{asked_by, command_named}
@@ -97,12 +97,6 @@ some_ready : (name : List ℕ) (asked : List ℕ → ServerCommand) (text : List
 some_ready name asked [] ready = tt
 some_ready name asked (b ∷ text) ready = ready
 
-target_ready : (name : List ℕ) (asked : List ℕ → ServerCommand) (text : List ℕ) → IsReady (one_word name asked text) → IsReady (one_target name asked text)
-target_ready name asked text ready = by (is_target (word_of text)) where
-  by : (t : Bool) → IsReady (cond t (one_word name asked text) (Wrong name))
-  by true = ready
-  by false = tt
-
 pair_ready : (name : List ℕ) (asked : List ℕ → List ℕ → ServerCommand) (text : List ℕ) → IsLine text
     → ((target said : List ℕ) → IsLead target → IsLine target → IsLine said → IsReady (asked target said)) → IsReady (target_and_text name asked text)
 pair_ready name asked text line ready = by (is_target (word_of text)) (is_filled (rest_of text)) refl where
@@ -145,6 +139,13 @@ mode_ready text line = by (are_mode_words (words_of text)) refl where
       (few (length (words_of text)) parts.0, words_sent (words_of text) bare parts.1, words_in_line (words_of text) bare, texts_from (words_of text) (words_of_utf8 text line.utf8))
   by false e = tt
 
+query_ready : (text : List ℕ) → IsLine text → IsReady (query_command text)
+query_ready text line = by (is_target (word_of text)) refl (rest_of text) (line_rest text line) where
+  by : (t : Bool) → is_target (word_of text) ≡ t → (said : List ℕ) → IsLine said → IsReady (cond t (query_with (word_of text) said) (Wrong (codes "query")))
+  by true e [] is = (line_word text line).utf8
+  by true e (b ∷ said) is = (word_lead text line e, (line_word text line).utf8, is)
+  by false e said is = tt
+
 -- ---- servers
 
 adds_ready : (name address : List ℕ) (tls : Option (Option Bool)) → IsReady (adds_with name address tls)
@@ -175,7 +176,7 @@ word_ready words.Join text line = one_ready (codes "join") (λ c. Joins c) text 
 word_ready words.Part text line = line
 word_ready words.Msg text line = pair_ready (codes "msg") (λ t said. Says t said) text line (λ target said lead word is. (lead, word.utf8, is))
 word_ready words.Notice text line = pair_ready (codes "notice") (λ t said. Notices t said) text line (λ target said lead word is. (lead, word.utf8, is))
-word_ready words.Query text line = target_ready (codes "query") (λ n. Queries n) text (one_ready (codes "query") (λ n. Queries n) text line (λ word is. is.utf8))
+word_ready words.Query text line = query_ready text line
 word_ready words.Me text line = some_ready (codes "me") (λ deed. Does deed) text line
 word_ready words.Nick text line = one_ready (codes "nick") (λ n. Renames n) text line (λ word is. is)
 word_ready words.Topic text line = some_ready (codes "topic") (λ topic. SetsTopic topic) text line

@@ -1,5 +1,5 @@
 -- What follows of what is said: PRIVMSG, and ACTION and other requests between clients (CTCP) in it.
-use Rattle.std.specs.Prelude.{ℕ, Bool, true, false, ◌==◌, ◌+◌, nat_le, List, [], ◌∷◌, ◌++◌, codes}
+use Rattle.std.specs.Prelude.{ℕ, Bool, true, false, ◌==◌, ◌-◌, List, [], ◌∷◌, ◌++◌, codes}
 use Rattle.std.specs.Prelude.{bytes_eq, length, drop}
 use Rattle.std.specs.Prelude.{Option, Some, None, option_map, option_and_then, if◌then◌else◌}
 use Rattle.wc_text.specs.Splits.{before, text_after}
@@ -62,10 +62,11 @@ talk_of text = talk_in text (request_of text)
 
 -- ---- what is heard: servers cut what is too long, and with it the byte 01 at its end
 
--- how long the line `:N!U@H PRIVMSG T :text` of a message is
-abbrev pub said_length : Message → ℕ
-said_length m = length m.nick + length m.user + length m.host + length m.command
-    + length (param 0 m) + length (param 1 m) + 7
+-- how many of 400 bytes the line `:N!U@H PRIVMSG T :text` of a message leaves, which has 7 beside
+-- its parts
+abbrev pub room_left : Message → ℕ
+room_left m = (((((393 - length m.nick) - length m.user) - length m.host) - length m.command)
+    - length (param 0 m)) - length (param 1 m)
 
 abbrev pub deed_front : List ℕ
 deed_front = 1 ∷ codes "ACTION "
@@ -75,14 +76,19 @@ abbrev pub open_deed : List ℕ → Talk
 open_deed text = if begins_with_text text deed_front then Does (drop 8 text) else Says text
 
 -- a line of 400 bytes or more may have been cut
+abbrev pub may_be_cut : Message → Bool
+may_be_cut m = room_left m == 0
+
+abbrev pub said_or_done : Bool → List ℕ → Talk
+said_or_done cut text = if cut then open_deed text else Says text
+
 abbrev pub heard_in : Bool → Talk → Talk
-heard_in true (Says text) = open_deed text
-heard_in true (Does deed) = Does deed
-heard_in true (Requests word) = Requests word
-heard_in false talk = talk
+heard_in cut (Says text) = said_or_done cut text
+heard_in cut (Does deed) = Does deed
+heard_in cut (Requests word) = Requests word
 
 abbrev pub talk_heard : Message → Talk
-talk_heard m = heard_in (nat_le 400 (said_length m)) (talk_of (param 1 m))
+talk_heard m = heard_in (may_be_cut m) (talk_of (param 1 m))
 
 -- ---- the nick as the line of a channel shows it: after its sign, where it has one
 

@@ -1,5 +1,5 @@
-ghost use Rattle.std.specs.Prelude.{◌≡◌, ◌-◌, Some, ℕ, List, length, nat_le};
-ghost use Rattle.wc_irc.specs.SpeechActs.{talk_in, talk_of, said_length, open_deed, heard_in};
+ghost use Rattle.std.specs.Prelude.{◌≡◌, ◌-◌, Some, ℕ, List, length};
+ghost use Rattle.wc_irc.specs.SpeechActs.{talk_in, talk_of, may_be_cut, open_deed, said_or_done};
 ghost use Rattle.wc_irc.specs.SpeechActs.{talk_heard};
 ghost use Rattle.wc_irc.specs.SpeechSeen.{talk_seen};
 
@@ -54,8 +54,8 @@ fn room_after(room: usize, part: &[u8]) -> usize
 }
 
 /// Whether a line of these parts, with a source in front, may have been cut by a server.
-fn is_long(m: &Message) -> bool
-    ensures { result ≡ nat_le 400 (said_length m.now) }
+fn may_be_cut(m: &Message) -> bool
+    ensures { result ≡ may_be_cut m.now }
 {
     let room = room_after(SHORT - BETWEEN, m.nick.as_slice());
     let room = room_after(room, m.user.as_slice());
@@ -75,13 +75,24 @@ fn open_deed(text: &[u8]) -> Talk<'_>
     }
 }
 
+fn said_or_done(cut: bool, text: &[u8]) -> Talk<'_>
+    ensures { talk_seen result ≡ said_or_done cut text.now }
+{
+    if cut {
+        open_deed(text)
+    } else {
+        Talk::Says(text)
+    }
+}
+
 /// What a message says. Where its line is so long that it may have been cut, something that is done
 /// may lack its end.
 pub(crate) fn talk_heard(m: &Message) -> Talk<'_>
     ensures { talk_seen result ≡ talk_heard m.now }
 {
     match talk_of(param(m, 1)) {
-        Talk::Says(text) if is_long(m) => open_deed(text),
-        talk => talk,
+        Talk::Says(text) => said_or_done(may_be_cut(m), text),
+        Talk::Does(deed) => Talk::Does(deed),
+        Talk::Requests(word) => Talk::Requests(word),
     }
 }

@@ -1,7 +1,7 @@
 -- What a text that is typed asks of servers, by its bytes alone.
 use Rattle.std.specs.Prelude.{ℕ, Bool, true, false, not, ◌&&◌, ◌||◌, ◌==◌, nat_lt, nat_le, List, []}
 use Rattle.std.specs.Prelude.{◌∷◌, codes, length, Option, Some, None, if◌then◌else◌}
-use Rattle.std.specs.Str.{bytes_eq}
+use Rattle.std.specs.Str.{bytes_eq, str_eq_ignore_ascii_case}
 use Rattle.wc_text.specs.Splits.{begins_with, word_of, rest_of}
 use Rattle.wc_text.specs.Words.{words_of, is_filled}
 
@@ -56,12 +56,7 @@ some_text name asked (b ∷ text) = asked (b ∷ text)
 abbrev pub is_target : List ℕ → Bool
 is_target word = is_filled word && not (begins_with 58 word)
 
--- one word that can be sent before others
-abbrev pub one_target : List ℕ → (List ℕ → ServerCommand) → List ℕ → ServerCommand
-one_target name asked text = if is_target (word_of text) then one_word name asked text
-    else Wrong name
-
--- such a word, and a text that is not empty
+-- a word that can be sent before others, and a text that is not empty
 abbrev pub target_and_text : List ℕ → (List ℕ → List ℕ → ServerCommand) → List ℕ → ServerCommand
 target_and_text name asked text = if is_target (word_of text) && is_filled (rest_of text)
     then asked (word_of text) (rest_of text) else Wrong name
@@ -87,6 +82,16 @@ are_mode_words words = nat_lt 0 (length words) && (nat_le (length words) 15 && e
 abbrev pub mode_command : List ℕ → ServerCommand
 mode_command text = if are_mode_words (words_of text) then SetsModes (words_of text)
     else Wrong (codes "mode")
+
+-- ---- `/query`: a word that can be sent before others, and a text that is said, where there is one
+
+abbrev pub query_with : List ℕ → List ℕ → ServerCommand
+query_with nick [] = Queries nick
+query_with nick (b ∷ text) = Says nick (b ∷ text)
+
+abbrev pub query_command : List ℕ → ServerCommand
+query_command text = if is_target (word_of text) then query_with (word_of text) (rest_of text)
+    else Wrong (codes "query")
 
 -- ---- `/server` and `/disconnect`
 
@@ -124,33 +129,42 @@ disconnect_command (b ∷ text) = one_word (codes "disconnect") (λ name. Discon
 
 -- ---- commands
 
+-- names are known in letters of any case
+abbrev pub is_called : List ℕ → List ℕ → Bool
+is_called name word = str_eq_ignore_ascii_case name word
+
+-- and some by a letter as well
+abbrev pub is_either : List ℕ → List ℕ → List ℕ → Bool
+is_either name word letter = is_called name word || is_called name letter
+
 -- what a command of this name asks with this text; None where it is another command
 unfoldable pub command_of : List ℕ → List ℕ → Option ServerCommand
 command_of name text =
-    if bytes_eq name (codes "join") then Some (one_word (codes "join") (λ c. Joins c) text) else (
-    if bytes_eq name (codes "part") then Some (Parts text) else (
-    if bytes_eq name (codes "msg")
+    if is_either name (codes "join") (codes "j")
+    then Some (one_word (codes "join") (λ c. Joins c) text) else (
+    if is_called name (codes "part") then Some (Parts text) else (
+    if is_either name (codes "msg") (codes "m")
     then Some (target_and_text (codes "msg") (λ t said. Says t said) text) else (
-    if bytes_eq name (codes "notice")
+    if is_called name (codes "notice")
     then Some (target_and_text (codes "notice") (λ t said. Notices t said) text) else (
-    if bytes_eq name (codes "query")
-    then Some (one_target (codes "query") (λ n. Queries n) text) else (
-    if bytes_eq name (codes "me") then Some (some_text (codes "me") (λ deed. Does deed) text)
+    if is_either name (codes "query") (codes "q")
+    then Some (query_command text) else (
+    if is_called name (codes "me") then Some (some_text (codes "me") (λ deed. Does deed) text)
     else (
-    if bytes_eq name (codes "nick") then Some (one_word (codes "nick") (λ n. Renames n) text)
+    if is_called name (codes "nick") then Some (one_word (codes "nick") (λ n. Renames n) text)
     else (
-    if bytes_eq name (codes "topic")
+    if is_called name (codes "topic")
     then Some (some_text (codes "topic") (λ topic. SetsTopic topic) text) else (
-    if bytes_eq name (codes "kick") then Some (kick_command text) else (
-    if bytes_eq name (codes "mode") then Some (mode_command text) else (
-    if bytes_eq name (codes "names") then Some (without_words (codes "names") AsksNames text)
+    if is_either name (codes "kick") (codes "k") then Some (kick_command text) else (
+    if is_called name (codes "mode") then Some (mode_command text) else (
+    if is_either name (codes "names") (codes "n") then Some (without_words (codes "names") AsksNames text)
     else (
-    if bytes_eq name (codes "quote")
+    if is_called name (codes "quote")
     then Some (some_text (codes "quote") (λ line. Quotes line) text) else (
-    if bytes_eq name (codes "server") then Some (server_command text) else (
-    if bytes_eq name (codes "connect")
+    if is_called name (codes "server") then Some (server_command text) else (
+    if is_called name (codes "connect")
     then Some (one_word (codes "connect") (λ n. Connects n) text) else (
-    if bytes_eq name (codes "disconnect") then Some (disconnect_command text)
+    if is_called name (codes "disconnect") then Some (disconnect_command text)
     else None))))))))))))))
 
 -- after a first `/`: a second one makes a text of it, which begins with that one

@@ -3,7 +3,6 @@ use Rattle.std.specs.Prelude.{ℕ, suc, Option, Some, None, List, [], ◌∷◌,
 use Rattle.std.specs.Prelude.{◌&&◌, ◌||◌, ◌==◌, nat_lt}
 use Rattle.std.specs.Prelude.{if◌then◌else◌}
 use Rattle.std.specs.Borrow.{Bor}
-use Rattle.std.specs.Str.{bytes_eq}
 use Rattle.wc_text.specs.Splits.{word_of, rest_of}
 use Rattle.wc_text.specs.Words.{words_of, is_filled}
 use Rattle.wc_irc_words.specs.declared.typed.ServerCommand.{ServerCommand as Lent}
@@ -14,7 +13,8 @@ use Rattle.wc_irc_words.specs.Typed.{ServerCommand, AddsServer, DeletesServer, C
 use Rattle.wc_irc_words.specs.Typed.{Joins, Parts, Says, Notices, Queries, Does, Renames}
 use Rattle.wc_irc_words.specs.Typed.{SetsTopic, Kicks}
 use Rattle.wc_irc_words.specs.Typed.{SetsModes, AsksNames, Quotes, Talks, Wrong, is_target, one_word}
-use Rattle.wc_irc_words.specs.Typed.{without_words, some_text, one_target, target_and_text}
+use Rattle.wc_irc_words.specs.Typed.{without_words, some_text, query_command}
+use Rattle.wc_irc_words.specs.Typed.{target_and_text, is_either}
 use Rattle.wc_irc_words.specs.Typed.{kick_command, mode_command, server_command, disconnect_command}
 
 -- a word that was found
@@ -61,13 +61,35 @@ name_of words.Server = codes "server"
 name_of words.Connect = codes "connect"
 name_of words.Disconnect = codes "disconnect"
 
+-- the letter by which it is known as well, where there is one
+abbrev pub letter_of : CommandWord → List ℕ
+letter_of words.Join = codes "j"
+letter_of words.Msg = codes "m"
+letter_of words.Query = codes "q"
+letter_of words.Kick = codes "k"
+letter_of words.Names = codes "n"
+letter_of words.Part = codes "part"
+letter_of words.Notice = codes "notice"
+letter_of words.Me = codes "me"
+letter_of words.Nick = codes "nick"
+letter_of words.Topic = codes "topic"
+letter_of words.Mode = codes "mode"
+letter_of words.Quote = codes "quote"
+letter_of words.Server = codes "server"
+letter_of words.Connect = codes "connect"
+letter_of words.Disconnect = codes "disconnect"
+
 abbrev pub all_words : List CommandWord
 all_words = words.Join ∷ words.Part ∷ words.Msg ∷ words.Notice ∷ words.Query ∷ words.Me ∷
     words.Nick ∷ words.Topic ∷ words.Kick ∷ words.Mode ∷ words.Names ∷ words.Quote ∷ words.Server ∷
     words.Connect ∷ words.Disconnect ∷ []
 
+-- whether a text names a command, in letters of any case
+abbrev pub is_name : List ℕ → CommandWord → Bool
+is_name text word = is_either text (name_of word) (letter_of word)
+
 abbrev pub word_named : List ℕ → Option CommandWord
-word_named text = find (λ word. bytes_eq text (name_of word)) all_words
+word_named text = find (is_name text) all_words
 
 -- the only word of a text
 abbrev pub only_word : List ℕ → Option (List ℕ)
@@ -80,7 +102,7 @@ asked_with words.Join text = one_word (codes "join") (λ c. Joins c) text
 asked_with words.Part text = Parts text
 asked_with words.Msg text = target_and_text (codes "msg") (λ t said. Says t said) text
 asked_with words.Notice text = target_and_text (codes "notice") (λ t said. Notices t said) text
-asked_with words.Query text = one_target (codes "query") (λ n. Queries n) text
+asked_with words.Query text = query_command text
 asked_with words.Me text = some_text (codes "me") (λ deed. Does deed) text
 asked_with words.Nick text = one_word (codes "nick") (λ n. Renames n) text
 asked_with words.Topic text = some_text (codes "topic") (λ topic. SetsTopic topic) text

@@ -1,5 +1,5 @@
 ghost use Rattle.std.specs.Prelude.{◌≡◌};
-ghost use Rattle.wc_irc_words.specs.TypedSeen.{name_of, word_named};
+ghost use Rattle.wc_irc_words.specs.TypedSeen.{name_of, letter_of, is_name, word_named};
 
 /// The name of a command that speaks to servers.
 #[derive(Clone, Copy, PartialEq, Eq)]
@@ -62,13 +62,33 @@ impl CommandWord {
         }
     }
 
-    /// The command that is written so, with case kept.
+    /// The letter by which it is known as well, or else its name.
+    fn letter(self) -> &'static [u8]
+        ensures { result.now ≡ letter_of self }
+    {
+        match self {
+            CommandWord::Join => b"j",
+            CommandWord::Msg => b"m",
+            CommandWord::Query => b"q",
+            CommandWord::Kick => b"k",
+            CommandWord::Names => b"n",
+            _ => self.name(),
+        }
+    }
+
+    fn is_name(self, text: &[u8]) -> bool
+        ensures { result ≡ is_name text.now self }
+    {
+        text.eq_ignore_ascii_case(self.name()) || text.eq_ignore_ascii_case(self.letter())
+    }
+
+    /// The command that is written so, in letters of any case.
     pub fn named(text: &[u8]) -> Option<CommandWord>
         ensures { result ≡ word_named text.now }
     {
         CommandWord::ALL
             .iter()
             .copied()
-            .find(|word| text == word.name())
+            .find(|word| word.is_name(text))
     }
 }

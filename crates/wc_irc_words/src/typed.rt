@@ -1,8 +1,8 @@
 ghost use Rattle.std.specs.Prelude.{◌≡◌, codes, option_map};
-ghost use Rattle.wc_irc_words.specs.Typed.{without_words, one_word, some_text, is_target, one_target};
+ghost use Rattle.wc_irc_words.specs.Typed.{without_words, one_word, some_text};
 ghost use Rattle.wc_irc_words.specs.Typed.{target_and_text, kick_command, mode_command, command_of};
-ghost use Rattle.wc_irc_words.specs.Typed.{slash_command, asked_of, Joins, Says, Notices, Queries};
-ghost use Rattle.wc_irc_words.specs.Typed.{Renames, AsksNames, Connects};
+ghost use Rattle.wc_irc_words.specs.Typed.{query_command, query_with, slash_command, asked_of};
+ghost use Rattle.wc_irc_words.specs.Typed.{Joins, Says, Notices, Renames, AsksNames, Connects};
 ghost use Rattle.wc_irc_words.specs.TypedSeen.{meaning, asked_with, pair_in, target_pair};
 ghost use Rattle.wc_text.specs.Splits.{word_of, rest_of};
 ghost use Rattle.wc_text.specs.Words.{is_filled};
@@ -84,12 +84,27 @@ fn connect_command(text: &[u8]) -> ServerCommand<'_>
     }
 }
 
+/// A word that can be sent before others, and a text that is said, where there is one.
 fn query_command(text: &[u8]) -> ServerCommand<'_>
-    ensures { meaning result ≡ one_target (codes "query") (λ n. Queries n) text.now }
+    ensures { meaning result ≡ query_command text.now }
 {
-    match only_word(text) {
-        Some(nick) if is_target(nick) => ServerCommand::Query(nick),
-        _ => ServerCommand::Wrong(b"query"),
+    let (nick, said) = cut_word(text);
+    if !is_target(nick) {
+        return ServerCommand::Wrong(b"query");
+    }
+    query_with(nick, said)
+}
+
+fn query_with<'a>(nick: &'a [u8], said: &'a [u8]) -> ServerCommand<'a>
+    ensures { meaning result ≡ query_with nick.now said.now }
+{
+    if said.is_empty() {
+        ServerCommand::Query(nick)
+    } else {
+        ServerCommand::Say {
+            target: nick,
+            text: said,
+        }
     }
 }
 
