@@ -4,6 +4,8 @@
 Two clients log in, ask for all events and take the three dumps. Then each types commands at random, from a seed: buffers
 that are added, merged, moved, hidden, renamed and closed, variables, titles, lines. Each client folds the events into
 its copy, and after every round the copies are compared with those of fresh dumps. It ends with 1 where they differ.
+One client keeps the program's limit of lines, the other asks for trims and is told which lines go. With --limits both
+ask for trims, and the limit of lines is changed too.
 With --lines it prints so many lines into so many buffers instead, and measures the dump of all lines. The program has
 to have no other clients. Python 3, standard library only. Examples:
 
@@ -87,12 +89,12 @@ class Client:
         self.link = link
         self.bytes, self.limit, self.groups, self.lines, self.nicks = b"", limit, [], {}, {}
         self.send(login.rstrip("\n"))
-        self.send("sync")
+        self.send("sync" if limit else "sync * buffers,buffer,nicklist,trims")
         self.groups, self.lines, self.nicks = self.dumps()
 
     @classmethod
     def plain(cls, port, password, limit):
-        """A client over TCP that logs in by the password as it is."""
+        """A client over TCP that logs in by the password as it is, and asks for trims where it keeps no limit of lines."""
         link = socket.create_connection(("127.0.0.1", port))
         link.setsockopt(socket.IPPROTO_TCP, socket.TCP_NODELAY, 1)
         return cls(link, "init password=" + password, limit)
@@ -161,7 +163,10 @@ class Client:
         if event == "line_added":
             kept = self.lines.setdefault(values["buffer"], [])
             kept.append((handle, values))
-            del kept[: max(0, len(kept) - self.limit)]
+            if self.limit:
+                del kept[: max(0, len(kept) - self.limit)]
+        elif event == "lines_trimmed":
+            del self.lines[values["buffer"]][: values["count"]]
         elif event == "opened":
             new = {k: v for k, v in values.items() if k not in ("number", "prev_buffer", "next_buffer")}
             self.groups.append([dict(handle=handle, **new)])
@@ -190,7 +195,7 @@ class Client:
                 self.groups[group][place]["hidden"] = int(event == "hidden")
 
 
-def command(dice, client, names):
+def command(dice, client, names, limits):
     """A command at random, and the buffer into which it is typed."""
     buffers = [b["full_name"] for g in client.groups for b in g]
     here, there = dice.choice(buffers), dice.choice(buffers)
@@ -215,16 +220,19 @@ def command(dice, client, names):
             "/print -buffer %s -tags a,%s text" % (there, word),
             "no command",
         ]
+        + ["/set weechat.history.max_buffer_lines_number %d" % dice.choice([1, 2, 3, 5, 8, 4096])] * limits
+        + ["/unset weechat.history.max_buffer_lines_number"] * limits
     )
 
 
 def check(words):
-    clients = [Client.plain(words.port, words.password, words.limit) for _ in range(2)]
+    limits = [None, None] if words.limits else [words.limit, None]
+    clients = [Client.plain(words.port, words.password, limit) for limit in limits]
     dice, names = random.Random(words.seed), ["n%d" % n for n in range(12)]
     for round in range(words.rounds):
         for client in clients:
             for _ in range(8):
-                client.send("input %s %s" % command(dice, client, names))
+                client.send("input %s %s" % command(dice, client, names, int(words.limits)))
         for client in clients + clients:
             client.settle()
         fresh = clients[round % 2].dumps()
@@ -263,6 +271,7 @@ def main():
     words.add_argument("--port", type=int, default=9000)
     words.add_argument("--password", required=True)
     words.add_argument("--limit", type=int, default=4096, help="lines that a buffer holds, as the program has it")
+    words.add_argument("--limits", action="store_true", help="change the limit of lines too")
     words.add_argument("--rounds", type=int, default=100)
     words.add_argument("--seed", type=int, default=1)
     words.add_argument("--lines", type=int, default=0)

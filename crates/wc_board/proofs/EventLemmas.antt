@@ -1,4 +1,4 @@
--- The event of a notice, and the connections that it is told to.
+-- The event of one part of a notice, and the connections that it is told to.
 use Rattle.std.proofs.Common.{◌≡◌, ℕ, Bool, true, false, cond, ◌&&◌, ◌||◌, inl, inr, List, [], ◌∷◌, ◌++◌, Some, refl, ap, sym, subst, ◌∙◌, append-nil}
 use Rattle.std.specs.Prelude.{map}
 use Rattle.std.specs.List.{flat_map, list_any}
@@ -10,12 +10,12 @@ use Rattle.wc_model.specs.World.{World}
 use Rattle.wc_objects.specs.declared.object.WireMessage.{WireMessage}
 use Rattle.wc_session.specs.declared.client.Client.{Client}
 use Rattle.wc_session.specs.Known.{Known}
-use Rattle.wc_session.specs.Event.{Spelled, IsEventOf, event_messages, with_event, notice_told}
+use Rattle.wc_session.specs.Event.{Spelled, IsEventOf, event_messages, with_event, part_told}
 use Rattle.wc_session.specs.Sending.{spelling}
 use Rattle.wc_session.specs.Sync.{follows, after_event}
 use Rattle.wc_board.specs.declared.connection.Connection.{Connection}
 use Rattle.wc_board.specs.Connections.{is_open}
-use Rattle.wc_board.specs.Served.{listens, noted_connection, heard_connection, starved_connection, told_connection, ConnectionServed, ConnectionsServed, ConnectionKept, ConnectionsKept}
+use Rattle.wc_board.specs.Served.{listens, noted_connection, heard_connection, starved_connection, part_connection, ConnectionServed, ConnectionsServed, ConnectionKept, ConnectionsKept}
 use Rattle.wc_board.specs.declared.connection.Service.{Service}
 use Rattle.wc_board.specs.declared.connection.Service.TheVariants.{Tell, Starve}
 use Rattle.wc_board.specs.Services.{serve_connection}
@@ -25,12 +25,12 @@ abbrev spelt : List WireMessage → List ℕ
 spelt messages = flat_map (λ m. spelling m) messages
 
 -- what a client is told that does not follow the event, and what one that does
-told_none : (w : World) (n : Notice) (client : Client) → follows n.kind n.buffer.0 client ≡ false → notice_told w n client ≡ []
-unfolding notice_told
+told_none : (w : World) (n : Notice) (client : Client) → follows n.kind n.buffer.0 client ≡ false → part_told w n client ≡ []
+unfolding part_told
 told_none w n client e = ap (λ b. cond b (event_messages w n) []) e
 
-spelt-told : (w : World) (n : Notice) (client : Client) → spelt (notice_told w n client) ≡ cond (follows n.kind n.buffer.0 client) (spelt (event_messages w n)) []
-unfolding notice_told
+spelt-told : (w : World) (n : Notice) (client : Client) → spelt (part_told w n client) ≡ cond (follows n.kind n.buffer.0 client) (spelt (event_messages w n)) []
+unfolding part_told
 spelt-told w n client = by (follows n.kind n.buffer.0 client) where
   by : (b : Bool) → spelt (cond b (event_messages w n) []) ≡ cond b (spelt (event_messages w n)) []
   by true = refl
@@ -43,10 +43,10 @@ abbrev following : EventKind → ℕ → Connection → List ℕ → Connection
 following kind buffer connection bytes = record connection { session = record { client = after_event kind buffer connection.session.client; unsent = bytes } }
 
 -- a client that the event is not for
-told_deaf : (w : World) (n : Notice) (connection : Connection) → listens n.kind n.buffer.0 connection ≡ false → noted_connection n.kind n.buffer.0 connection ≡ told_connection w n connection
+told_deaf : (w : World) (n : Notice) (connection : Connection) → listens n.kind n.buffer.0 connection ≡ false → noted_connection n.kind n.buffer.0 connection ≡ part_connection w n connection
 told_deaf w n connection deaf = by (is_open connection) (follows n.kind n.buffer.0 connection.session.client) refl deaf where
   by : (b f : Bool) → follows n.kind n.buffer.0 connection.session.client ≡ f → (b && f) ≡ false
-      → cond b (following n.kind n.buffer.0 connection connection.session.unsent) connection ≡ cond b (following n.kind n.buffer.0 connection (connection.session.unsent ++ spelt (notice_told w n connection.session.client))) connection
+      → cond b (following n.kind n.buffer.0 connection connection.session.unsent) connection ≡ cond b (following n.kind n.buffer.0 connection (connection.session.unsent ++ spelt (part_told w n connection.session.client))) connection
   by true true e deaf = absurd (cc)
   by true false e deaf =
       ap (λ bytes. following n.kind n.buffer.0 connection bytes) (sym (append-nil connection.session.unsent))
@@ -54,9 +54,9 @@ told_deaf w n connection deaf = by (is_open connection) (follows n.kind n.buffer
   by false f e deaf = refl
 
 -- the event is what is to be told
-told_heard : (event : Spelled) (w : World) (n : Notice) (connection : Connection) → IsEventOf event w n → heard_connection event connection ≡ told_connection w n connection
+told_heard : (event : Spelled) (w : World) (n : Notice) (connection : Connection) → IsEventOf event w n → heard_connection event connection ≡ part_connection w n connection
 told_heard event w n connection is = by (is_open connection) where
-  bytes : (client : Client) → cond (follows event.kind event.buffer.0 client) event.bytes [] ≡ spelt (notice_told w n client)
+  bytes : (client : Client) → cond (follows event.kind event.buffer.0 client) event.bytes [] ≡ spelt (part_told w n client)
   bytes client =
       ap (λ kind. cond (follows kind event.buffer.0 client) event.bytes []) is.kind
       ∙ ap (λ (buffer : Handle). cond (follows n.kind buffer.0 client) event.bytes []) is.buffer
@@ -65,13 +65,13 @@ told_heard event w n connection is = by (is_open connection) where
   hears : after_event event.kind event.buffer.0 connection.session.client ≡ after_event n.kind n.buffer.0 connection.session.client
   hears = ap (λ kind. after_event kind event.buffer.0 connection.session.client) is.kind ∙ ap (λ (buffer : Handle). after_event n.kind buffer.0 connection.session.client) is.buffer
 
-  sent : with_event event connection.session ≡ record { client = after_event n.kind n.buffer.0 connection.session.client; unsent = connection.session.unsent ++ spelt (notice_told w n connection.session.client) }
+  sent : with_event event connection.session ≡ record { client = after_event n.kind n.buffer.0 connection.session.client; unsent = connection.session.unsent ++ spelt (part_told w n connection.session.client) }
   sent =
       let known : Client → List ℕ → Known = λ client unsent. record { client = client; unsent = unsent } in
       ap (λ client. known client (with_event event connection.session).unsent) hears
       ∙ ap (λ bytes. known (after_event n.kind n.buffer.0 connection.session.client) (connection.session.unsent ++ bytes)) (bytes connection.session.client)
 
-  by : (b : Bool) → cond b (record connection { session = with_event event connection.session }) connection ≡ cond b (following n.kind n.buffer.0 connection (connection.session.unsent ++ spelt (notice_told w n connection.session.client))) connection
+  by : (b : Bool) → cond b (record connection { session = with_event event connection.session }) connection ≡ cond b (following n.kind n.buffer.0 connection (connection.session.unsent ++ spelt (part_told w n connection.session.client))) connection
   by true = ap (λ session. record connection { session = session }) sent
   by false = refl
 
@@ -88,9 +88,9 @@ starved_kept kind buffer connection = by (is_open connection) (follows kind buff
   by true false e = noted_kept kind buffer connection
   by false f e = noted_kept kind buffer connection
 
-told_kept : (w : World) (n : Notice) (connection : Connection) → ConnectionKept connection (told_connection w n connection)
+told_kept : (w : World) (n : Notice) (connection : Connection) → ConnectionKept connection (part_connection w n connection)
 told_kept w n connection = by (is_open connection) refl where
-  by : (b : Bool) → is_open connection ≡ b → ConnectionKept connection (cond b (following n.kind n.buffer.0 connection (connection.session.unsent ++ spelt (notice_told w n connection.session.client))) connection)
+  by : (b : Bool) → is_open connection ≡ b → ConnectionKept connection (cond b (following n.kind n.buffer.0 connection (connection.session.unsent ++ spelt (part_told w n connection.session.client))) connection)
   by true e = record { link = refl; kept = λ shut. absurd (cc); cause = inl refl }
   by false e = ConnectionKept-refl connection
 
@@ -121,18 +121,18 @@ noted_link kind buffer connection = by (is_open connection) where
 
 -- ---- all connections
 
-pub all_deaf : (w : World) (n : Notice) (connections : List Connection) → list_any (λ connection. listens n.kind n.buffer.0 connection) connections ≡ false → map (noted_connection n.kind n.buffer.0) connections ≡ map (told_connection w n) connections
+pub all_deaf : (w : World) (n : Notice) (connections : List Connection) → list_any (λ connection. listens n.kind n.buffer.0 connection) connections ≡ false → map (noted_connection n.kind n.buffer.0) connections ≡ map (part_connection w n) connections
 all_deaf w n [] none = refl
 all_deaf w n (connection ∷ connections) none = by (listens n.kind n.buffer.0 connection) refl none (all_deaf w n connections) where
   by : (b : Bool) → listens n.kind n.buffer.0 connection ≡ b → (b || list_any (λ connection. listens n.kind n.buffer.0 connection) connections) ≡ false
-      → (list_any (λ connection. listens n.kind n.buffer.0 connection) connections ≡ false → map (noted_connection n.kind n.buffer.0) connections ≡ map (told_connection w n) connections)
-      → noted_connection n.kind n.buffer.0 connection ∷ map (noted_connection n.kind n.buffer.0) connections ≡ told_connection w n connection ∷ map (told_connection w n) connections
+      → (list_any (λ connection. listens n.kind n.buffer.0 connection) connections ≡ false → map (noted_connection n.kind n.buffer.0) connections ≡ map (part_connection w n) connections)
+      → noted_connection n.kind n.buffer.0 connection ∷ map (noted_connection n.kind n.buffer.0) connections ≡ part_connection w n connection ∷ map (part_connection w n) connections
   by true e none more = absurd (cc)
-  by false e none more = ap (λ s. s ∷ map (noted_connection n.kind n.buffer.0) connections) (told_deaf w n connection e) ∙ ap (λ ss. told_connection w n connection ∷ ss) (more none)
+  by false e none more = ap (λ s. s ∷ map (noted_connection n.kind n.buffer.0) connections) (told_deaf w n connection e) ∙ ap (λ ss. part_connection w n connection ∷ ss) (more none)
 
-pub all_heard : (event : Spelled) (w : World) (n : Notice) (connections : List Connection) → IsEventOf event w n → map (heard_connection event) connections ≡ map (told_connection w n) connections
+pub all_heard : (event : Spelled) (w : World) (n : Notice) (connections : List Connection) → IsEventOf event w n → map (heard_connection event) connections ≡ map (part_connection w n) connections
 all_heard event w n [] is = refl
-all_heard event w n (connection ∷ connections) is = ap (λ s. s ∷ map (heard_connection event) connections) (told_heard event w n connection is) ∙ ap (λ ss. told_connection w n connection ∷ ss) (all_heard event w n connections is)
+all_heard event w n (connection ∷ connections) is = ap (λ s. s ∷ map (heard_connection event) connections) (told_heard event w n connection is) ∙ ap (λ ss. part_connection w n connection ∷ ss) (all_heard event w n connections is)
 
 pub served_map : (kind : EventKind) (buffer : ℕ) (service : Connection → Connection) (connections : List Connection) → ConnectionsServed kind buffer service connections (map service connections)
 served_map kind buffer service [] = tt
@@ -152,8 +152,8 @@ served_starving kind buffer (a ∷ old) (b ∷ new) served = ap (λ s. s ∷ new
   one (inl e) = e
   one (inr e) = e
 
--- who was told the event was told the notice
-pub served_heard : (event : Spelled) (w : World) (n : Notice) (old new : List Connection) → IsEventOf event w n → ConnectionsServed event.kind event.buffer.0 (heard_connection event) old new → ConnectionsServed n.kind n.buffer.0 (told_connection w n) old new
+-- who was told the event was told the part
+pub served_heard : (event : Spelled) (w : World) (n : Notice) (old new : List Connection) → IsEventOf event w n → ConnectionsServed event.kind event.buffer.0 (heard_connection event) old new → ConnectionsServed n.kind n.buffer.0 (part_connection w n) old new
 served_heard event w n [] [] is served = tt
 served_heard event w n [] (b ∷ new) is served = absurd served
 served_heard event w n (a ∷ old) [] is served = absurd served
@@ -161,7 +161,7 @@ served_heard event w n (a ∷ old) (b ∷ new) is served = (one served.0, served
   starves : starved_connection event.kind event.buffer.0 a ≡ starved_connection n.kind n.buffer.0 a
   starves = ap (λ kind. starved_connection kind event.buffer.0 a) is.kind ∙ ap (λ (buffer : Handle). starved_connection n.kind buffer.0 a) is.buffer
 
-  one : ConnectionServed event.kind event.buffer.0 (heard_connection event) a b → ConnectionServed n.kind n.buffer.0 (told_connection w n) a b
+  one : ConnectionServed event.kind event.buffer.0 (heard_connection event) a b → ConnectionServed n.kind n.buffer.0 (part_connection w n) a b
   one (inl e) = inl (e ∙ told_heard event w n a is)
   one (inr e) = inr (e ∙ starves)
 
@@ -178,5 +178,5 @@ served_kept_by kind buffer service keeps (a ∷ old) (b ∷ new) served = (one s
   one (inl e) = subst P (sym e) (keeps a)
   one (inr e) = subst P (sym e) (starved_kept kind buffer a)
 
-pub served_kept : (w : World) (n : Notice) (old new : List Connection) → ConnectionsServed n.kind n.buffer.0 (told_connection w n) old new → ConnectionsKept old new
-served_kept w n old new served = served_kept_by n.kind n.buffer.0 (told_connection w n) (told_kept w n) old new served
+pub served_kept : (w : World) (n : Notice) (old new : List Connection) → ConnectionsServed n.kind n.buffer.0 (part_connection w n) old new → ConnectionsKept old new
+served_kept w n old new served = served_kept_by n.kind n.buffer.0 (part_connection w n) (told_kept w n) old new served

@@ -1,9 +1,11 @@
 pub mod ConnectionLemmas
 pub mod EventLemmas
+pub mod HeardCounts
 pub mod HookedChanges
 pub mod HookedLemmas
 pub mod NickPushes
 pub mod NoticeText
+pub mod PartLemmas
 pub mod PassLemmas
 pub mod PushConnections
 pub mod PushEach

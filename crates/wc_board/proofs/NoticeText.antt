@@ -39,6 +39,7 @@ told_are before following (what.RemoveGroup name) p q = q
 told_are before following (what.RemoveNick name) p q = q
 told_are before following (what.ChangeGroup item) p q = q
 told_are before following (what.ChangeNick item) p q = q
+told_are before following (what.Limit limit) p q = q
 
 -- the name of the buffer is text
 pub notice-utf8 : (before : World) (change : Change) (following : World) (n : Notice) (groups groups' : EntryGroups) → Accepted before change following n → groups ≡ before.groups → groups' ≡ following.groups → AreBuffers groups → AreBuffers groups' → IsUtf8 n.full_name

@@ -88,6 +88,7 @@ still_there w h (what.RemoveGroup name) b free other gone = gone
 still_there w h (what.RemoveNick name) b free other gone = gone
 still_there w h (what.ChangeGroup item) b free other gone = gone
 still_there w h (what.ChangeNick item) b free other gone = gone
+still_there w h (what.Limit limit) b free other gone = gone
 
 apart : (h b : Handle) (gs : EntryGroups) → is_there h gs ≡ true → is_there b gs ≡ false → eqb h.0 b.0 ≡ false
 apart h b gs there gone = by_bool (eqb h.0 b.0) _ (λ t. absurd (false≢true (sym gone ∙ ap (λ n. has handle_of n gs) (sym (eqb-true h.0 b.0 t)) ∙ there))) (λ t. t)
@@ -129,6 +130,7 @@ untouched w h (what.RemoveGroup name) first b k free gone = touched_there w h _ 
 untouched w h (what.RemoveNick name) first b k free gone = touched_there w h _ _ first b k (removed_there w h false name free) gone
 untouched w h (what.ChangeGroup item) first b k free gone = touched_there w h _ _ first b k (changed_there w h true item free) gone
 untouched w h (what.ChangeNick item) first b k free gone = touched_there w h _ _ first b k (changed_there w h false item free) gone
+untouched w h (what.Limit limit) first b k free gone = refl
 
 -- ---- what is kept
 

@@ -203,6 +203,7 @@ tell_law w h (what.RemoveGroup name) old new told free are stray touched was = r
 tell_law w h (what.RemoveNick name) old new told free are stray touched was = removed_told w h false name old new (told_of told) touched was
 tell_law w h (what.ChangeGroup item) old new told free are stray touched was = changed_told w h true item old new (told_of told) touched was
 tell_law w h (what.ChangeNick item) old new told free are stray touched was = changed_told w h false item old new (told_of told) touched was
+tell_law w h (what.Limit limit) old new told free are stray touched was = plain_told w (after_of w h (what.Limit limit)) old new (told_of told) (λ q. refl) touched was
 
 pub change_keeps_told : (w : World) (change : Change) (old new : List OfBuffer) (told : Told) → refusal w change ≡ None → AreBuffers (after w change).groups → NoStrayTouches w old → AreTouched w change old new → AreTold w old (told_of told)
     → AreTold (after w change) new (told_of (told_after w change.buffer change.what told))

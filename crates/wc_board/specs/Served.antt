@@ -1,13 +1,14 @@
 -- What becomes of the clients at an event, also where memory is refused.
 use Rattle.std.specs.Prelude.{◌≡◌, ℕ, Bool, false, ◌&&◌, ◌⊎◌, if◌then◌else◌, List, [], ◌∷◌, ◌++◌}
-use Rattle.std.specs.Prelude.{Option, Some}
-use Rattle.std.specs.List.{flat_map}
+use Rattle.std.specs.Prelude.{Option, Some, fold, filter, length}
+use Rattle.std.specs.List.{flat_map, list_any}
 use Rattle.wc_text.specs.declared.names.Cause.{Cause}
 use Rattle.wc_text.specs.declared.names.Cause.TheVariants.{NoMemory}
 use Rattle.wc_model.specs.declared.notice.EventKind.{EventKind}
 use Rattle.wc_model.specs.declared.notice.Notice.{Notice}
+use Rattle.wc_model.specs.Parts.{parts_of}
 use Rattle.wc_model.specs.World.{World}
-use Rattle.wc_session.specs.Event.{Spelled, with_event, notice_told}
+use Rattle.wc_session.specs.Event.{Spelled, with_event, part_told}
 use Rattle.wc_session.specs.Sending.{spelling}
 use Rattle.wc_session.specs.Sync.{follows, after_event}
 use Rattle.wc_board.specs.declared.connection.Connection.{Connection}
@@ -41,16 +42,21 @@ starved_connection kind buffer connection =
     if listens kind buffer connection then record connection { leaving = Some NoMemory }
     else noted_connection kind buffer connection
 
--- a connection once a notice is told, in the world after the change
-abbrev pub told_connection : World → Notice → Connection → Connection
-told_connection world notice connection =
+-- a connection once one part of a notice is told, in the world after the change
+abbrev pub part_connection : World → Notice → Connection → Connection
+part_connection world part connection =
     if is_open connection then record connection {
       session = record {
-        client = after_event notice.kind notice.buffer.0 connection.session.client;
+        client = after_event part.kind part.buffer.0 connection.session.client;
         unsent = connection.session.unsent ++ flat_map (λ m. spelling m)
-            (notice_told world notice connection.session.client);
+            (part_told world part connection.session.client);
       };
     } else connection
+
+-- a connection once a notice is told, which is once all of its parts are
+abbrev pub told_connection : World → Notice → Connection → Connection
+told_connection world notice connection = fold (λ connection part. part_connection world part connection)
+    connection (parts_of world notice)
 
 -- a connection after this service of it, or one whose client leaves for want of memory, where the
 -- service was for it
@@ -66,6 +72,30 @@ ConnectionsServed kind buffer service [] (b ∷ new) = ⊥
 ConnectionsServed kind buffer service (a ∷ old) [] = ⊥
 ConnectionsServed kind buffer service (a ∷ old) (b ∷ new) = ConnectionServed kind buffer service a b
     × ConnectionsServed kind buffer service old new
+
+-- The parts of a notice are told one after another; who found no memory for one has left before the
+-- next.
+pub record PartServed (world : World) (part : Notice) (rest : List Connection → Type 0)
+    (old : List Connection) : Type 0 where
+  pub between : List Connection
+  pub served : ConnectionsServed part.kind part.buffer.0 (part_connection world part) old between
+  pub others : rest between
+
+abbrev pub PartsServed : World → List Notice → List Connection → List Connection → Type 0
+PartsServed world [] old new = new ≡ old
+PartsServed world (part ∷ parts) old new =
+    PartServed world part (λ between. PartsServed world parts between new) old
+
+abbrev pub NoticeServed : World → Notice → List Connection → List Connection → Type 0
+NoticeServed world notice old new = PartsServed world (parts_of world notice) old new
+
+-- how many of these some client is open and asked for
+abbrev pub is_heard : List Connection → Notice → Bool
+is_heard connections part =
+    list_any (λ connection. listens part.kind part.buffer.0 connection) connections
+
+abbrev pub heard_number : List Connection → List Notice → ℕ
+heard_number connections parts = length (filter (λ part. is_heard connections part) parts)
 
 -- a client that is leaving is left alone, and another one leaves for want of memory at most
 pub record ConnectionKept (old new : Connection) : Type 0 where

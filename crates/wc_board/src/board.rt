@@ -1,12 +1,12 @@
-ghost use Rattle.std.specs.Prelude.{◌≡◌, ◌<◌, ◌≤◌, ◌+◌, ◌++◌, ℕ, List, [], true, false, map};
+ghost use Rattle.std.specs.Prelude.{◌≡◌, ◌<◌, ◌≤◌, ◌+◌, ◌++◌, ℕ, List, [], true, map};
 ghost use Rattle.std.specs.Prelude.{IfOk, OnOk, OnErr};
-ghost use Rattle.std.specs.List.{list_any};
 ghost use Rattle.wc_text.specs.declared.names.Handle.{Handle as HandleValue};
 ghost use Rattle.wc_nicklist.specs.declared.item.Row.{Row};
 ghost use Rattle.wc_nickdiff.specs.Held.{touches_of};
 ghost use Rattle.wc_outside.specs.Keyed.{at_key};
 ghost use Rattle.wc_model.specs.Notices.{Outcome};
 ghost use Rattle.wc_model.specs.Order.{order};
+ghost use Rattle.wc_model.specs.Parts.{parts_of};
 ghost use Rattle.wc_model.specs.World.{rows_at};
 ghost use Rattle.wc_world.specs.Texts.{IsChangeText};
 ghost use Rattle.wc_board.specs.Answered.{noticed, IsUnchanged};
@@ -14,7 +14,7 @@ ghost use Rattle.wc_board.specs.BoardView.{NoStrayTouches, first_board};
 ghost use Rattle.wc_board.specs.Connections.{connection_link, client_of, unsent_on};
 ghost use Rattle.wc_board.specs.Pushes.{pushed_connection, pushed_bytes, EachPushed};
 ghost use Rattle.wc_board.specs.Pushes.{touched_number};
-ghost use Rattle.wc_board.specs.Served.{listens, told_connection, ConnectionsServed, ConnectionsKept};
+ghost use Rattle.wc_board.specs.Served.{heard_number, told_connection, ConnectionsKept, NoticeServed};
 ghost use Rattle.wc_board.specs.Told.{AreTold, AreTouched};
 
 use crate::clients::Clients;
@@ -96,9 +96,9 @@ impl Board {
         &self.world
     }
 
-    /// Makes a change, and tells it to each client that is open and asked for its event, which is
-    /// spelled once. The refusals are those of the world. A client that finds no memory for the
-    /// event is leaving, and the change stands.
+    /// Makes a change, and tells its event, and how many of the oldest lines each buffer lost, to each
+    /// client that is open and asked for it. Each of these is spelled once. The refusals are those of
+    /// the world. A client that finds no memory for one of them is leaving, and the change stands.
     pub fn tell(&mut self, change: Change) -> Result<Told, ChangeRefused>
         requires { IsChangeText change.what }
         ensures outcome { Outcome self.old.world change self.new.world (noticed result) }
@@ -108,16 +108,15 @@ impl Board {
             self.new.connections ≡ map (told_connection self.new.world told.notice)
             self.old.connections) }
         ensures each { IfOk result (λ told.
-            ConnectionsServed told.notice.kind told.notice.buffer.0
-            (told_connection self.new.world told.notice)
+            NoticeServed self.new.world told.notice
             self.old.connections self.new.connections) }
         ensures unchanged { OnErr result (IsUnchanged self.old self.new) }
     {
         self.tell_alone::<Brand>(change, Blank::new(1))
     }
 
-    /// The same where the events that are spelled are counted: at most one is, and none where no
-    /// client asked for it or the change is refused.
+    /// The same where the events that are spelled are counted: of each part of the notice at most one
+    /// is, and none where no client asked for it or the change is refused.
     pub fn tell_counted<L: Ledger>(
         &mut self,
         change: Change,
@@ -131,14 +130,14 @@ impl Board {
             self.new.connections ≡ map (told_connection self.new.world told.notice)
             self.old.connections) }
         ensures each { IfOk result (λ told.
-            ConnectionsServed told.notice.kind told.notice.buffer.0
-            (told_connection self.new.world told.notice)
+            NoticeServed self.new.world told.notice
             self.old.connections self.new.connections) }
         ensures unchanged { OnErr result (IsUnchanged self.old self.new) }
-        ensures once { spellings.new ≤ spellings.old + 1 }
-        ensures none { IfOk result (λ told. list_any (λ connection.
-            listens told.notice.kind told.notice.buffer.0 connection)
-            self.old.connections ≡ false → spellings.new ≡ spellings.old) }
+        ensures once { IfOk result (λ told. spellings.new ≤ spellings.old
+            + heard_number self.old.connections (parts_of self.new.world told.notice)) }
+        ensures none { IfOk result (λ told.
+            heard_number self.old.connections (parts_of self.new.world told.notice) ≡ 0 →
+            spellings.new ≡ spellings.old) }
         ensures refused { OnErr result (spellings.new ≡ spellings.old) }
     {
         let notice = change_world(self.alloc, &mut self.world, &mut self.pending, change)?;
@@ -165,8 +164,7 @@ impl Board {
             self.new.connections ≡ map (told_connection self.new.world told.notice)
             self.old.connections) }
         ensures each { IfOk result (λ told.
-            ConnectionsServed told.notice.kind told.notice.buffer.0
-            (told_connection self.new.world told.notice)
+            NoticeServed self.new.world told.notice
             self.old.connections self.new.connections) }
         ensures unchanged { OnErr result (IsUnchanged self.old self.new) }
     {

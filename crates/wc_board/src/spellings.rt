@@ -3,7 +3,8 @@
 ghost use Rattle.std.specs.Prelude.{◌≡◌, ◌+◌, ◌<◌, false, List, IfOk, IfSome, MatchOption};
 ghost use Rattle.std.specs.Str.{IsUtf8};
 ghost use Rattle.wc_buffers.specs.Calls.{is_there};
-ghost use Rattle.wc_model.specs.World.{rows_at, root_at};
+ghost use Rattle.wc_model.specs.Parts.{trim_part};
+ghost use Rattle.wc_model.specs.World.{World as WorldValue, rows_at, root_at};
 ghost use Rattle.wc_nickdiff.specs.Held.{before_at, touches_of};
 ghost use Rattle.wc_nickdiff.specs.NickPush.{nick_push};
 ghost use Rattle.wc_nickdiff.specs.Told.{IsTold};
@@ -13,7 +14,7 @@ ghost use Rattle.wc_session.specs.Event.{IsEventOf, IsPushOf, IsPushKind};
 use std::alloc::Global;
 use std::marker::Model;
 use std::sync::ledger::{Blank, Book, Ledger, Share};
-use wc_model::Notice;
+use wc_model::{Notice, Trim};
 use wc_nickdiff::Pending;
 use wc_session::BufferEvent;
 use wc_text::{Handle, NoMemory};
@@ -61,6 +62,16 @@ impl<L: Ledger> Spellings<L> {
     {
         self.book.add(&mut self.share, 1);
         BufferEvent::of(alloc, world, notice)
+    }
+
+    /// Spells the event of the oldest lines that a buffer lost.
+    pub(crate) fn of_trim(&mut self, alloc: Global, trim: Trim) -> Result<BufferEvent, NoMemory>
+        ensures count { self.new ≡ self.old + 1 }
+        ensures event { IfOk result (λ event. (world : WorldValue) →
+            IsEventOf event world (trim_part trim)) }
+    {
+        self.book.add(&mut self.share, 1);
+        BufferEvent::of_trim(alloc, trim)
     }
 
     /// Spells the event of what became of the nicklist of a buffer since it was told.

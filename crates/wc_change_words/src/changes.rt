@@ -91,6 +91,16 @@ fn read_add(alloc: Global, words: &[&str]) -> Result<What, Wrong>
     Ok(What::Add(buffer))
 }
 
+/// Another limit of lines, from 1 to 4096. The buffer of the change is not looked at.
+fn read_limit(words: &[&str]) -> Result<What, Wrong>
+    ensures { IfOk result IsChangeText }
+{
+    match small_number(one_word(words)?)? {
+        limit @ 1..=4096 => Ok(What::Limit(limit)),
+        _ => Err(Wrong::NoNumber),
+    }
+}
+
 fn read_move(words: &[&str]) -> Result<What, Wrong>
     ensures { IfOk result IsChangeText }
 {
@@ -184,6 +194,7 @@ fn read_inner_change(alloc: Global, word: &str, words: &[&str]) -> Result<What, 
 {
     match word {
         "print" => read_print(alloc, words),
+        "limit" => read_limit(words),
         "flips" => read_flips(alloc, words),
         "add-group" => read_add_group(alloc, words),
         "add-nick" => read_add_nick(alloc, words),

@@ -1,6 +1,7 @@
 -- The acts that servers ask for, one by one.
-use Rattle.std.proofs.Common.{◌≡◌, ℕ, Bool, true, false, cond, ◌&&◌, List, [], ◌∷◌, inl, inr, Option, Some, None, IfSome, refl, ap, sym, subst, ◌∙◌}
+use Rattle.std.proofs.Common.{◌≡◌, ℕ, ◌≤◌, Bool, true, false, cond, ◌&&◌, nat_le, arith, List, [], ◌∷◌, inl, inr, Option, Some, None, IfSome, refl, ap, sym, subst, ◌∙◌}
 use Rattle.std.proofs.lemmas.Bool.{false≢true}
+use Rattle.std.proofs.lemmas.Bool.Decides.{nat_tests}
 use Rattle.std.proofs.lemmas.List.Elements.{All-nil, All-cons}
 use Rattle.std.proofs.lemmas.Str.{IsUtf8-from_is_utf8}
 use Rattle.std.specs.List.{All, list_all}
@@ -78,7 +79,10 @@ item_text item e =
       prefix_color = IsUtf8-from_is_utf8 item.prefix_color (both_right _ _ more);
     }
 
--- what passes the test is text
+limit_text : (limit : ℕ) → nat_le 1 limit ≡ true → nat_le limit 4096 ≡ true → (1 ≤ limit) × (limit ≤ 4096)
+limit_text limit low high = (grind (arith, nat_tests), grind (arith, nat_tests))
+
+-- what passes the test is text, and a limit of lines is one that there may be
 pub change_text : (w : What) → is_change_text w ≡ true → IsChangeText w
 unfolding is_change_text
 change_text (what.Add spec) e = spec_text spec e
@@ -102,6 +106,7 @@ change_text (what.RemoveGroup name) e = tt
 change_text (what.RemoveNick name) e = tt
 change_text (what.ChangeGroup item) e = item_text item e
 change_text (what.ChangeNick item) e = item_text item e
+change_text (what.Limit limit) e = limit_text limit (both_left (nat_le 1 limit) (nat_le limit 4096) e) (both_right (nat_le 1 limit) (nat_le limit 4096) e)
 
 -- ---- changes
 

@@ -26,7 +26,7 @@ use Rattle.wc_board.specs.Answered.{is_nicklist, pushes_before, PushedIf, IsPush
 use Rattle.wc_board.specs.BoardView.{BoardView}
 use Rattle.wc_board.specs.Connections.{connection_link, client_of, is_open, is_open_at, session_at, new_connection}
 use Rattle.wc_board.specs.Pushes.{pushed_connection}
-use Rattle.wc_board.specs.Served.{told_connection, ConnectionsKept, ConnectionsServed}
+use Rattle.wc_board.specs.Served.{ConnectionsKept, NoticeServed}
 use Rattle.wc_core.specs.State.{Beside}
 use Rattle.wc_board.proofs.PushConnections.{ConnectionsKept-refl}
 use Rattle.wc_board.proofs.PushEach.{open_number, number_more, none_left, all_is}
@@ -313,7 +313,7 @@ surplus-by told old servers link nonce full used =
     let Q : ServersView → Type 0 = λ servers. AdmitsUnlessStarved told link.0 old (record old { servers = servers }) (Some Surplus) (arrival_step (state_of old told) link.0 nonce) in
     subst Q (sym used) (came-surplus told old link nonce full)
 
-pub changed-some : (old : CoreView) (board : BoardView) (new : CoreView) (before : ℕ) (change : Change) (notice : Notice) → MadeOn old board.world board.pending change notice → ConnectionsServed notice.kind notice.buffer.0 (told_connection board.world notice) old.connections board.connections
+pub changed-some : (old : CoreView) (board : BoardView) (new : CoreView) (before : ℕ) (change : Change) (notice : Notice) → MadeOn old board.world board.pending change notice → NoticeServed board.world notice old.connections board.connections
     → new ≡ record (with_board old board old.starved) { starved = count_since old board.connections before } → before ≡ open_number old.connections → old.starved ≤ new.starved → MakesChange old change new
 changed-some old board new before change notice made served e same rises =
     let c = counted-as old board.connections before same (more old board new before e rises) in

@@ -12,7 +12,7 @@ use Rattle.wc_model.specs.Notices.{notice}
 use Rattle.wc_model.specs.Touches.{told_after}
 use Rattle.wc_core.specs.Resolved.{refusal_text, told_refusal}
 use Rattle.wc_core.specs.State.{State, Stepped}
-use Rattle.wc_core.specs.Changing.{then_does, tell_all_step, change_step, change_step_if, refusal_step, ask_step_if, ask_step}
+use Rattle.wc_core.specs.Changing.{then_does, tell_all_step, change_step, change_step_if, refusal_step, ask_step_if, ask_step, limit_change, limit_step}
 use Rattle.wc_core.specs.Served.{or_else, close_of}
 use Rattle.wc_core.proofs.DidLemmas.{close_of-append}
 use Rattle.wc_core.proofs.ConnectionLemmas.{close-told}
@@ -33,6 +33,10 @@ changes-closes j state change = told_all-closes j state (told_after state.world 
 pub changes_if-closes : (j : ℕ) (state : State) (change : Change) (o : Option ChangeRefused) → close_of j (change_step_if state change o).acts ≡ None
 changes_if-closes j state change None = changes-closes j state change
 changes_if-closes j state change (Some reason) = refl
+
+pub limits-closes : (j : ℕ) (state : State) (o : Option ℕ) → close_of j (limit_step state o).acts ≡ None
+limits-closes j state None = refl
+limits-closes j state (Some limit) = changes-closes j state (limit_change limit)
 
 pub tells-closes : (j : ℕ) (state : State) (text : List ℕ) → close_of j (refusal_step state text).acts ≡ None
 tells-closes j state text = changes_if-closes j state (told_refusal state.moment text) (refusal state.world (told_refusal state.moment text))

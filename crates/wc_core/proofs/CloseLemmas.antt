@@ -20,8 +20,9 @@ use Rattle.wc_options.specs.Options.{refusal_of, value_of}
 use Rattle.wc_options.specs.declared.refusal.SetRefused.{SetRefused}
 use Rattle.wc_options.specs.declared.refusal.SetRefused.TheVariants.{UnknownOption}
 use Rattle.wc_core.specs.Typed.{TypedCommand, typed_line, lines_of_text, evaluation_of}
-use Rattle.wc_core.specs.State.{State, has_end}
-use Rattle.wc_core.specs.Step.{reach_step, set_step_if, unset_step_if, client_link, pushed_to, push_at, pushes_of, push_step, no_step, then_does, sends, ask_step, effect_step, typed_step, other_of, input_by, input_step, lines_step, start_step, outcome_step, answer_step, loss_step, core_buffer, commands_step, plain_step, Evaluation, evaluated_by, input_with, eval_step, evaluation_at, input_at}
+use Rattle.wc_core.specs.Limits.{limit_set, limit_unset}
+use Rattle.wc_core.specs.State.{State, Stepped, has_end}
+use Rattle.wc_core.specs.Step.{reach_step, limit_step, set_step_if, set_step, unset_step_if, unset_step, client_link, pushed_to, push_at, pushes_of, push_step, no_step, then_does, sends, ask_step, effect_step, typed_step, other_of, input_by, input_step, lines_step, start_step, outcome_step, answer_step, loss_step, core_buffer, commands_step, plain_step, Evaluation, evaluated_by, input_with, eval_step, evaluation_at, input_at}
 use Rattle.wc_core.specs.CoreView.{CoreView}
 use Rattle.wc_core.specs.Served.{state_of, or_else, close_of, LeavesBy}
 use Rattle.wc_board.specs.Served.{StaysOrStarves}
@@ -29,7 +30,7 @@ use Rattle.wc_irc_texts.specs.Texts.{in_one_line}
 use Rattle.wc_irc_words.specs.Typed.{asked_of}
 use Rattle.wc_core.specs.ServerSteps.{before_step}
 use Rattle.wc_core.specs.ServerTyped.{connect_all_step}
-use Rattle.wc_core.proofs.ChangeCloses.{closes_none-if, then-closes, tells-closes, asks-closes}
+use Rattle.wc_core.proofs.ChangeCloses.{closes_none-if, then-closes, limits-closes, tells-closes, asks-closes}
 use Rattle.wc_core.proofs.ServerCloses.{quits-closes, before-closes, connects_all-closes, serves-closes}
 use Rattle.wc_core.proofs.DidLemmas.{close_of-append, ClosesLater}
 use Rattle.wc_core.proofs.ConnectionLemmas.{close-sends}
@@ -66,13 +67,23 @@ unsets_if-closes : (j : ℕ) (state : State) (name : List ℕ) (o : Option (List
 unsets_if-closes j state name None = tells-closes j state (option_text name UnknownOption)
 unsets_if-closes j state name (Some value) = refl
 
+pub sets-closes : (j : ℕ) (state : State) (name value : List ℕ) → close_of j (set_step state name value).acts ≡ None
+sets-closes j state name value = sets_if-closes j state name value (refusal_of state.options name value)
+
+pub unsets-closes : (j : ℕ) (state : State) (name : List ℕ) → close_of j (unset_step state name).acts ≡ None
+unsets-closes j state name = unsets_if-closes j state name (value_of state.options name)
+
+-- nor does another limit of lines before it
+after_limit-closes : (j : ℕ) (state : State) (o : Option ℕ) (next : State → Stepped) → ((state : State) → close_of j (next state).acts ≡ None) → close_of j (then_does (limit_step state o) next).acts ≡ None
+after_limit-closes j state o next none = then-closes j (limit_step state o) next (limits-closes j state o) (none (limit_step state o).state)
+
 resolved-closes : (j : ℕ) (state : State) (r : Effect) → close_of j (effect_step state r).acts ≡ None
 resolved-closes j state Stays = refl
 resolved-closes j state ResolvedEnds = quits-closes j state
 resolved-closes j state (Tells text) = tells-closes j state text
 resolved-closes j state (Asks change) = then-closes j (before_step state change) (λ next. ask_step next change) (before-closes j state change) (asks-closes j (before_step state change).state change)
-resolved-closes j state (SetsOption name value) = sets_if-closes j state name value (refusal_of state.options name value)
-resolved-closes j state (UnsetsOption name) = unsets_if-closes j state name (value_of state.options name)
+resolved-closes j state (SetsOption name value) = after_limit-closes j state (limit_set name value) (λ next. set_step next name value) (λ next. sets-closes j next name value)
+resolved-closes j state (UnsetsOption name) = after_limit-closes j state (limit_unset name) (λ next. unset_step next name) (λ next. unsets-closes j next name)
 resolved-closes j state SavesOptions = refl
 
 pub does-closes : (j : ℕ) (state : State) (buffer : Handle) (typed : TypedCommand) → close_of j (typed_step state buffer typed).acts ≡ None

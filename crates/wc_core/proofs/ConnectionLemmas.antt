@@ -19,6 +19,7 @@ use Rattle.wc_core.specs.State.{Act, has_end}
 use Rattle.wc_core.specs.Step.{client_link, sends, told_to}
 use Rattle.wc_board.specs.Connections.{connection_link, is_open, unsent_in, unsent_on, leaving_in, leaving_on}
 use Rattle.wc_board.specs.Served.{told_connection}
+use Rattle.wc_board.proofs.PartLemmas.{told_open, told_is}
 use Rattle.wc_core.specs.Served.{clients_of, sent_to, close_of, outs_of, Absent, Distinct}
 use Rattle.wc_core.proofs.DidLemmas.{sent_to-append, close_of-append, outs_of-append, has_end-append}
 
@@ -77,14 +78,9 @@ other_link n j ne = by (eqb n j) refl where
   by true e = let same : n ≡ j = grind (arith, nat_tests) in absurd (ne same)
   by false e = refl
 
--- an open connection that was told a notice
-abbrev told_open : World → Notice → Connection → Connection
-told_open w n connection = record connection {
-  session = record {
-    client = after_event n.kind n.buffer.0 connection.session.client;
-    unsent = connection.session.unsent ++ flat_map (λ m. spelling m) (notice_told w n connection.session.client);
-  };
-}
+-- a connection that was told a notice, all of it at once
+abbrev told_at_once : World → Notice → Connection → Connection
+told_at_once w n connection = cond (is_open connection) (told_open w n connection) connection
 
 abbrev told_text : World → Notice → Connection → List ℕ
 told_text w n connection = flat_map (λ m. spelling m) (notice_told w n connection.session.client)
@@ -103,21 +99,11 @@ sent-absent j w n (connection ∷ connections) absent = by (is_open connection) 
   by true more = acts_more j w n connection (clients_of connections) ∙ ap (λ t. cond t (told_text w n connection) no_bytes ++ sent_to j (told_acts w n connections)) (other_link (connection_link connection) j absent.0) ∙ more
   by false more = more
 
-pub told-link : (w : World) (n : Notice) (connection : Connection) → connection_link (told_connection w n connection) ≡ connection_link connection
-told-link w n connection = by (is_open connection) where
-  by : (b : Bool) → connection_link (cond b (told_open w n connection) connection) ≡ connection_link connection
-  by true = refl
-  by false = refl
-
-pub told-links : (w : World) (n : Notice) (connections : List Connection) → map connection_link (map (told_connection w n) connections) ≡ map connection_link connections
-told-links w n [] = refl
-told-links w n (connection ∷ connections) = ap (λ k. k ∷ map connection_link (map (told_connection w n) connections)) (told-link w n connection) ∙ ap (λ ns. connection_link connection ∷ ns) (told-links w n connections)
-
-pub told-clients : (w : World) (n : Notice) (connections : List Connection) → clients_of (map (told_connection w n) connections) ≡ map (after_event n.kind n.buffer.0) (clients_of connections)
-told-clients w n [] = refl
-told-clients w n (connection ∷ connections) = by (is_open connection) refl (told-clients w n connections) where
+told_at_once-clients : (w : World) (n : Notice) (connections : List Connection) → clients_of (map (told_at_once w n) connections) ≡ map (after_event n.kind n.buffer.0) (clients_of connections)
+told_at_once-clients w n [] = refl
+told_at_once-clients w n (connection ∷ connections) = by (is_open connection) refl (told_at_once-clients w n connections) where
   others : List Client
-  others = clients_of (map (told_connection w n) connections)
+  others = clients_of (map (told_at_once w n) connections)
 
   by : (b : Bool) → is_open connection ≡ b → others ≡ map (after_event n.kind n.buffer.0) (clients_of connections)
       → cond (is_open (cond b (told_open w n connection) connection)) ((cond b (told_open w n connection) connection).session.client ∷ others) others
@@ -129,14 +115,14 @@ same-leaving : (t : Bool) (x y : Connection) (p q : Option Connection) → x.lea
 same-leaving true x y p q e more = e
 same-leaving false x y p q e more = more
 
-pub told-leaving : (j : ℕ) (w : World) (n : Notice) (connections : List Connection) → leaving_on j (map (told_connection w n) connections) ≡ leaving_on j connections
-told-leaving j w n [] = refl
-told-leaving j w n (connection ∷ connections) = by (is_open connection) (told-leaving j w n connections) where
-  by : (b : Bool) → leaving_on j (map (told_connection w n) connections) ≡ leaving_on j connections
-      → leaving_in (cond (eqb (connection_link (cond b (told_open w n connection) connection)) j) (Some (cond b (told_open w n connection) connection)) (at_key connection_link j (map (told_connection w n) connections)))
+told_at_once-leaving : (j : ℕ) (w : World) (n : Notice) (connections : List Connection) → leaving_on j (map (told_at_once w n) connections) ≡ leaving_on j connections
+told_at_once-leaving j w n [] = refl
+told_at_once-leaving j w n (connection ∷ connections) = by (is_open connection) (told_at_once-leaving j w n connections) where
+  by : (b : Bool) → leaving_on j (map (told_at_once w n) connections) ≡ leaving_on j connections
+      → leaving_in (cond (eqb (connection_link (cond b (told_open w n connection) connection)) j) (Some (cond b (told_open w n connection) connection)) (at_key connection_link j (map (told_at_once w n) connections)))
       ≡ leaving_in (cond (eqb (connection_link connection) j) (Some connection) (at_key connection_link j connections))
-  by true more = same-leaving (eqb (connection_link connection) j) (told_open w n connection) connection (at_key connection_link j (map (told_connection w n) connections)) (at_key connection_link j connections) refl more
-  by false more = same-leaving (eqb (connection_link connection) j) connection connection (at_key connection_link j (map (told_connection w n) connections)) (at_key connection_link j connections) refl more
+  by true more = same-leaving (eqb (connection_link connection) j) (told_open w n connection) connection (at_key connection_link j (map (told_at_once w n) connections)) (at_key connection_link j connections) refl more
+  by false more = same-leaving (eqb (connection_link connection) j) connection connection (at_key connection_link j (map (told_at_once w n) connections)) (at_key connection_link j connections) refl more
 
 heard-bytes : (t : Bool) (w : World) (n : Notice) (connection : Connection) (p q : Option Connection) (others : List ℕ) → (t ≡ true → others ≡ []) → unsent_in p ≡ unsent_in q ++ others
     → unsent_in (cond t (Some (told_open w n connection)) p) ≡ unsent_in (cond t (Some connection) q) ++ (cond t (told_text w n connection) no_bytes ++ others)
@@ -152,19 +138,32 @@ kept-bytes false connection p q others none more = more
 pub same_number : (n j : ℕ) → eqb n j ≡ true → n ≡ j
 same_number n j e = grind (arith, nat_tests)
 
-pub told-bytes : (j : ℕ) (w : World) (n : Notice) (connections : List Connection) → Distinct (map connection_link connections) → unsent_on j (map (told_connection w n) connections) ≡ unsent_on j connections ++ sent_to j (told_acts w n connections)
-told-bytes j w n [] distinct = refl
-told-bytes j w n (connection ∷ connections) distinct = by (is_open connection) (told-bytes j w n connections distinct.1) where
+told_at_once-bytes : (j : ℕ) (w : World) (n : Notice) (connections : List Connection) → Distinct (map connection_link connections) → unsent_on j (map (told_at_once w n) connections) ≡ unsent_on j connections ++ sent_to j (told_acts w n connections)
+told_at_once-bytes j w n [] distinct = refl
+told_at_once-bytes j w n (connection ∷ connections) distinct = by (is_open connection) (told_at_once-bytes j w n connections distinct.1) where
   none : eqb (connection_link connection) j ≡ true → sent_to j (told_acts w n connections) ≡ []
   none e = let P : ℕ → Type 0 = λ n. Absent n (map connection_link connections) in sent-absent j w n connections (subst P (same_number (connection_link connection) j e) distinct.0)
 
-  by : (b : Bool) → unsent_on j (map (told_connection w n) connections) ≡ unsent_on j connections ++ sent_to j (told_acts w n connections)
-      → unsent_in (cond (eqb (connection_link (cond b (told_open w n connection) connection)) j) (Some (cond b (told_open w n connection) connection)) (at_key connection_link j (map (told_connection w n) connections)))
+  by : (b : Bool) → unsent_on j (map (told_at_once w n) connections) ≡ unsent_on j connections ++ sent_to j (told_acts w n connections)
+      → unsent_in (cond (eqb (connection_link (cond b (told_open w n connection) connection)) j) (Some (cond b (told_open w n connection) connection)) (at_key connection_link j (map (told_at_once w n) connections)))
       ≡ unsent_in (cond (eqb (connection_link connection) j) (Some connection) (at_key connection_link j connections)) ++ sent_to j (flat_map (told_to w n) (cond b (connection.session.client ∷ clients_of connections) (clients_of connections)))
   by true more =
-      heard-bytes (eqb (connection_link connection) j) w n connection (at_key connection_link j (map (told_connection w n) connections)) (at_key connection_link j connections) (sent_to j (told_acts w n connections)) none more
+      heard-bytes (eqb (connection_link connection) j) w n connection (at_key connection_link j (map (told_at_once w n) connections)) (at_key connection_link j connections) (sent_to j (told_acts w n connections)) none more
       ∙ ap (λ t. unsent_in (cond (eqb (connection_link connection) j) (Some connection) (at_key connection_link j connections)) ++ t) (sym (acts_more j w n connection (clients_of connections)))
-  by false more = kept-bytes (eqb (connection_link connection) j) connection (at_key connection_link j (map (told_connection w n) connections)) (at_key connection_link j connections) (sent_to j (told_acts w n connections)) none more
+  by false more = kept-bytes (eqb (connection_link connection) j) connection (at_key connection_link j (map (told_at_once w n) connections)) (at_key connection_link j connections) (sent_to j (told_acts w n connections)) none more
+
+told-all_at_once : (w : World) (n : Notice) (connections : List Connection) → map (told_connection w n) connections ≡ map (told_at_once w n) connections
+told-all_at_once w n [] = refl
+told-all_at_once w n (connection ∷ connections) = ap (λ s. s ∷ map (told_connection w n) connections) (told_is w n connection) ∙ ap (λ ss. told_at_once w n connection ∷ ss) (told-all_at_once w n connections)
+
+pub told-clients : (w : World) (n : Notice) (connections : List Connection) → clients_of (map (told_connection w n) connections) ≡ map (after_event n.kind n.buffer.0) (clients_of connections)
+told-clients w n connections = ap clients_of (told-all_at_once w n connections) ∙ told_at_once-clients w n connections
+
+pub told-leaving : (j : ℕ) (w : World) (n : Notice) (connections : List Connection) → leaving_on j (map (told_connection w n) connections) ≡ leaving_on j connections
+told-leaving j w n connections = ap (leaving_on j) (told-all_at_once w n connections) ∙ told_at_once-leaving j w n connections
+
+pub told-bytes : (j : ℕ) (w : World) (n : Notice) (connections : List Connection) → Distinct (map connection_link connections) → unsent_on j (map (told_connection w n) connections) ≡ unsent_on j connections ++ sent_to j (told_acts w n connections)
+told-bytes j w n connections distinct = ap (unsent_on j) (told-all_at_once w n connections) ∙ told_at_once-bytes j w n connections distinct
 
 -- ---- the client of a link
 

@@ -39,7 +39,7 @@ use Rattle.wc_core.specs.State.{State, Act, Stepped, Closes, has_end, outs_of}
 use Rattle.wc_core.specs.Step.{client_link, no_step, then_does, push_step, reply_step, sends, tell_all_step, change_step, change_step_if, refusal_step, ask_step_if, ask_step, effect_step, typed_step, leave_step, arrival_step, outcome_step, answer_step, request_step, line_step}
 use Rattle.wc_board.specs.Connections.{connection_link, is_open, is_open_at, leaving_on, left_if, left_at}
 use Rattle.wc_core.specs.Served.{clients_of, WereTold, close_of, LeavesBy, AdmitsUnlessStarved, OutcomeUtf8, plain_beside, Follows, KeepsClients, or_else, state_of}
-use Rattle.wc_board.specs.Served.{StaysOrStarves, told_connection, ConnectionsServed, ConnectionsKept}
+use Rattle.wc_board.specs.Served.{StaysOrStarves, told_connection, NoticeServed, ConnectionsKept}
 use Rattle.wc_board.specs.Answered.{is_nicklist, AnsweredIf, AnsweredAt}
 use Rattle.wc_board.specs.BoardView.{BoardView, NoStrayTouches}
 use Rattle.wc_board.specs.Told.{told_of, AreTold, AreTouched}
@@ -56,7 +56,7 @@ use Rattle.wc_core.proofs.ConnectionLemmas.{open-length, clients-push, links-pus
 use Rattle.wc_board.proofs.ConnectionLemmas.{ConnectionsKept-causes}
 use Rattle.wc_board.proofs.PushEach.{open_number}
 use Rattle.wc_servers.proofs.OutLemmas.{ServersFollow-refl}
-use Rattle.wc_board.proofs.EventLemmas.{served_map, served_kept}
+use Rattle.wc_board.proofs.PartLemmas.{notice_map, notice_kept}
 use Rattle.wc_core.proofs.ServeLemmas.{open_none, told_to_all, told-left, Follows-told, KeepsClients-told, KeepsClients-put, reply-left, Follows-reply, leave-left, Follows-leave}
 use Rattle.wc_core.proofs.ReplyLemmas.{reply_fits}
 use Rattle.wc_core.proofs.PushLemmas.{Runs-over}
@@ -119,7 +119,7 @@ told-all told told' old world pending n step board were =
     let new : CoreView = told_to_all old world pending n in
     let of : List Client → Stepped = λ clients. tell_all_step (record (state_with old told) { clients = clients }) told' world n in
     RunsAt-exact told old new of
-    (KeepsClients-told old new (steps-one (board_of old) (board_of new) step) (served_kept world n old.connections (map (told_connection world n) old.connections) (served_map n.kind n.buffer.0 (told_connection world n) old.connections)) (omega arith) (inl (refl, refl)) (ServersKeep-refl old.servers) refl)
+    (KeepsClients-told old new (steps-one (board_of old) (board_of new) step) (notice_kept world n old.connections (map (told_connection world n) old.connections) (notice_map world n old.connections)) (omega arith) (inl (refl, refl)) (ServersKeep-refl old.servers) refl)
     board
     (counts-none old new (told_starving world n old.connections) refl refl)
     (λ distinct. told-left (beside_in told) told' old world n) (λ distinct before. Follows-told (beside_in told) told' old world pending n distinct (were before))
@@ -154,11 +154,11 @@ told-change : (old : CoreView) (world : World) (pending : List OfBuffer) (change
 told-change old world pending change n made = λ told.
     let new : CoreView = told_to_all old world pending n in
     let step : BoardStep (board_of old) (board_of new) =
-    Tells (record { change = change; notice = n; accepted = made.accepted; touched = made.touched; each = served_map n.kind n.buffer.0 (told_connection world n) old.connections }) in
+    Tells (record { change = change; notice = n; accepted = made.accepted; touched = made.touched; each = notice_map world n old.connections }) in
     as_change (λ stepped. RunsAt told old new stepped) old world change n told made.accepted (told-all told (rows_after old change told) old world pending n step (by-one (board_of old) (board_of new) step tt) (were_after old world pending change n made told))
 
 -- some may have found no memory for it, each of whom is counted
-some-change : (old : CoreView) (world : World) (pending : List OfBuffer) (connections : List Connection) (k : ℕ) (change : Change) (n : Notice) → MadeOn old world pending change n → ConnectionsServed n.kind n.buffer.0 (told_connection world n) old.connections connections
+some-change : (old : CoreView) (world : World) (pending : List OfBuffer) (connections : List Connection) (k : ℕ) (change : Change) (n : Notice) → MadeOn old world pending change n → NoticeServed world n old.connections connections
     → k ≡ raised old.starved (open_number old.connections - open_number connections) → old.starved ≤ k → Runs old (record old { world = world; pending = pending; connections = connections; starved = k }) (λ state. change_step state change)
 some-change old world pending connections k change n made served count rises = λ told. record {
   keeps = KeepsClients-told old new (steps-one (board_of old) (board_of new) (Tells (record { change = change; notice = n; accepted = made.accepted; touched = made.touched; each = served }))) kept rises (inl (refl, refl)) (ServersKeep-refl old.servers) refl;
@@ -184,12 +184,12 @@ some-change old world pending connections k change n made served count rises = �
   dropped = open_number old.connections - open_number connections
 
   kept : ConnectionsKept old.connections connections
-  kept = served_kept world n old.connections connections served
+  kept = notice_kept world n old.connections connections served
 
   are : AreDropped old.connections connections
   are = kept_dropped old.connections connections kept
 
-pub changes-some : (old new : CoreView) (world : World) (pending : List OfBuffer) (connections : List Connection) (k : ℕ) (change : Change) (n : Notice) → MadeOn old world pending change n → ConnectionsServed n.kind n.buffer.0 (told_connection world n) old.connections connections
+pub changes-some : (old new : CoreView) (world : World) (pending : List OfBuffer) (connections : List Connection) (k : ℕ) (change : Change) (n : Notice) → MadeOn old world pending change n → NoticeServed world n old.connections connections
     → new ≡ record old { world = world; pending = pending; connections = connections; starved = k } → k ≡ raised old.starved (open_number old.connections - open_number connections) → old.starved ≤ k → MakesChange old change new
 changes-some old new world pending connections k change n made served e count rises =
     let P : CoreView → Type 0 = λ c. Runs old c (λ state. change_step state change) in

@@ -8,15 +8,18 @@ use Rattle.wc_text.specs.declared.names.Cause.TheVariants.{Ended, Failed, LoginF
 use Rattle.wc_text.specs.declared.names.Cause.TheVariants.{Quit, NoMemory, Disconnected, NickTaken, BadSocket}
 use Rattle.wc_outside.specs.Keyed.{at_key, put_at}
 use Rattle.wc_model.specs.declared.notice.Notice.{Notice}
+use Rattle.wc_model.specs.Parts.{parts_of}
 use Rattle.wc_model.specs.World.{World}
 use Rattle.std.specs.List.{flat_map}
-use Rattle.wc_session.specs.Event.{notice_told}
+use Rattle.wc_session.specs.Event.{part_told}
 use Rattle.wc_session.specs.Sending.{spelling}
 use Rattle.wc_session.specs.Sync.{follows, after_event}
 use Rattle.wc_board.specs.declared.connection.Connection.{Connection}
 use Rattle.wc_board.specs.Connections.{connection_link, is_open, is_open_at}
-use Rattle.wc_board.specs.Served.{StaysOrStarves, listens, noted_connection, told_connection, ConnectionServed, ConnectionsServed, ConnectionKept, ConnectionsKept}
+use Rattle.wc_board.specs.Served.{StaysOrStarves, listens, noted_connection, part_connection, told_connection, ConnectionServed, ConnectionsServed, PartsServed, NoticeServed, ConnectionKept, ConnectionsKept}
 use Rattle.wc_board.proofs.EventLemmas.{all_deaf, served_kept}
+use Rattle.wc_board.proofs.PartLemmas.{parts_connection, parts_first, parts_kept}
+use Rattle.wc_board.proofs.PushConnections.{map_none}
 use Rattle.wc_board.proofs.PushEach.{open_number, number_more}
 use Rattle.wc_core.specs.CoreView.{CoreView}
 use Rattle.wc_core.specs.Contained.{is_no_memory, starving_number, starved_by, want_number, raised, Counts}
@@ -186,27 +189,19 @@ kept_less k (a ∷ old) (b ∷ new) kept opened shut =
         omega (arith, x, y, l)
     by false o s more = one_less a b old new kept.0 (more o s)
 
--- ---- an event that is told
+-- ---- a part of a notice that is told
 
-told_leaving : (w : World) (n : Notice) (connection : Connection) → (told_connection w n connection).leaving ≡ connection.leaving
-told_leaving w n connection = by (is_open connection) where
+part_leaving : (w : World) (n : Notice) (connection : Connection) → (part_connection w n connection).leaving ≡ connection.leaving
+part_leaving w n connection = by (is_open connection) where
   heard : Connection
-  heard = record connection { session = record { client = after_event n.kind n.buffer.0 connection.session.client; unsent = connection.session.unsent ++ flat_map (λ m. spelling m) (notice_told w n connection.session.client) } }
+  heard = record connection { session = record { client = after_event n.kind n.buffer.0 connection.session.client; unsent = connection.session.unsent ++ flat_map (λ m. spelling m) (part_told w n connection.session.client) } }
 
   by : (b : Bool) → (cond b heard connection).leaving ≡ connection.leaving
   by true = refl
   by false = refl
 
--- as many are starving after an event that each client found memory for
-pub told_starving : (w : World) (n : Notice) (connections : List Connection) → starving_number (map (told_connection w n) connections) ≡ starving_number connections
-told_starving w n [] = refl
-told_starving w n (connection ∷ connections) =
-    let one : want_number (told_connection w n connection).leaving ≡ want_number connection.leaving = ap (λ o. want_number o) (told_leaving w n connection) in
-    let more = told_starving w n connections in
-    omega (arith, one, more)
-
 -- who is not told an event is as after it
-deaf_one : (w : World) (n : Notice) (a : Connection) → listens n.kind n.buffer.0 a ≡ false → noted_connection n.kind n.buffer.0 a ≡ told_connection w n a
+deaf_one : (w : World) (n : Notice) (a : Connection) → listens n.kind n.buffer.0 a ≡ false → noted_connection n.kind n.buffer.0 a ≡ part_connection w n a
 deaf_one w n a deaf =
     let head : List Connection → Connection = λ cs. first_or a cs in
     ap head (all_deaf w n (a ∷ []) (ap (λ b. b || false) deaf))
@@ -215,12 +210,12 @@ deaf_one w n a deaf =
     first_or c [] = c
     first_or c (x ∷ xs) = x
 
--- each was told, where as many are open as before
-pub served_none : (w : World) (n : Notice) (old new : List Connection) → ConnectionsServed n.kind n.buffer.0 (told_connection w n) old new → open_number new ≡ open_number old → new ≡ map (told_connection w n) old
-served_none w n [] [] served e = refl
-served_none w n [] (b ∷ new) served e = absurd served
-served_none w n (a ∷ old) [] served e = absurd served
-served_none w n (a ∷ old) (b ∷ new) served e = by served.0 (served_none w n old new served.1) where
+-- each was told it, where as many are open as before
+part_none : (w : World) (n : Notice) (old new : List Connection) → ConnectionsServed n.kind n.buffer.0 (part_connection w n) old new → open_number new ≡ open_number old → new ≡ map (part_connection w n) old
+part_none w n [] [] served e = refl
+part_none w n [] (b ∷ new) served e = absurd served
+part_none w n (a ∷ old) [] served e = absurd served
+part_none w n (a ∷ old) (b ∷ new) served e = by served.0 (part_none w n old new served.1) where
   less : open_number new ≤ open_number old
   less = (kept_dropped old new (served_kept w n old new served.1)).less
 
@@ -231,13 +226,13 @@ served_none w n (a ∷ old) (b ∷ new) served e = by served.0 (served_none w n 
     rest_by true q = (let x = number_more a old true q in let y = number_more b new true (ap is_none same ∙ q) in omega (arith, x, y, e))
     rest_by false q = (let x = number_more a old false q in let y = number_more b new false (ap is_none same ∙ q) in omega (arith, x, y, e))
 
-  told : b ≡ told_connection w n a → (open_number new ≡ open_number old → new ≡ map (told_connection w n) old) → b ∷ new ≡ told_connection w n a ∷ map (told_connection w n) old
-  told q more = ap (λ s. s ∷ new) q ∙ ap (λ ss. told_connection w n a ∷ ss) (more (rest_open (ap (λ (c : Connection). c.leaving) q ∙ told_leaving w n a)))
+  told : b ≡ part_connection w n a → (open_number new ≡ open_number old → new ≡ map (part_connection w n) old) → b ∷ new ≡ part_connection w n a ∷ map (part_connection w n) old
+  told q more = ap (λ s. s ∷ new) q ∙ ap (λ ss. part_connection w n a ∷ ss) (more (rest_open (ap (λ (c : Connection). c.leaving) q ∙ part_leaving w n a)))
 
-  by : ConnectionServed n.kind n.buffer.0 (told_connection w n) a b → (open_number new ≡ open_number old → new ≡ map (told_connection w n) old) → b ∷ new ≡ told_connection w n a ∷ map (told_connection w n) old
+  by : ConnectionServed n.kind n.buffer.0 (part_connection w n) a b → (open_number new ≡ open_number old → new ≡ map (part_connection w n) old) → b ∷ new ≡ part_connection w n a ∷ map (part_connection w n) old
   by (inl q) more = told q more
   by (inr q) more = starves (is_open a) refl (follows n.kind n.buffer.0 a.session.client) refl where
-    starves : (t : Bool) → is_open a ≡ t → (f : Bool) → follows n.kind n.buffer.0 a.session.client ≡ f → b ∷ new ≡ told_connection w n a ∷ map (told_connection w n) old
+    starves : (t : Bool) → is_open a ≡ t → (f : Bool) → follows n.kind n.buffer.0 a.session.client ≡ f → b ∷ new ≡ part_connection w n a ∷ map (part_connection w n) old
     starves true o true heard =
         let both : listens n.kind n.buffer.0 a ≡ true = ap (λ t. t && follows n.kind n.buffer.0 a.session.client) o ∙ heard in
         let left : b ≡ record a { leaving = Some NoMemory } = q ∙ ap (λ t. cond t (record a { leaving = Some NoMemory }) (noted_connection n.kind n.buffer.0 a)) both in
@@ -250,6 +245,37 @@ served_none w n (a ∷ old) (b ∷ new) served e = by served.0 (served_none w n 
     starves false o f heard =
         let deaf : listens n.kind n.buffer.0 a ≡ false = ap (λ t. t && follows n.kind n.buffer.0 a.session.client) o in
         told (q ∙ ap (λ t. cond t (record a { leaving = Some NoMemory }) (noted_connection n.kind n.buffer.0 a)) deaf ∙ deaf_one w n a deaf) more
+
+-- ---- a notice that is told
+
+parts_leaving : (w : World) (parts : List Notice) (connection : Connection) → (parts_connection w parts connection).leaving ≡ connection.leaving
+parts_leaving w [] connection = refl
+parts_leaving w (part ∷ parts) connection = parts_leaving w parts (part_connection w part connection) ∙ part_leaving w part connection
+
+told_leaving : (w : World) (n : Notice) (connection : Connection) → (told_connection w n connection).leaving ≡ connection.leaving
+told_leaving w n connection = parts_leaving w (parts_of w n) connection
+
+-- as many are starving after a notice that each client found memory for
+pub told_starving : (w : World) (n : Notice) (connections : List Connection) → starving_number (map (told_connection w n) connections) ≡ starving_number connections
+told_starving w n [] = refl
+told_starving w n (connection ∷ connections) =
+    let one : want_number (told_connection w n connection).leaving ≡ want_number connection.leaving = ap (λ o. want_number o) (told_leaving w n connection) in
+    let more = told_starving w n connections in
+    omega (arith, one, more)
+
+parts_none : (w : World) (parts : List Notice) (old new : List Connection) → PartsServed w parts old new → open_number new ≡ open_number old → new ≡ map (parts_connection w parts) old
+parts_none w [] old new served e = served ∙ sym (map_none (parts_connection w []) (λ s. refl) old)
+parts_none w (part ∷ parts) old new served e =
+    let mid = served.between in
+    let first = (kept_dropped old mid (served_kept w part old mid served.served)).less in
+    let more = (kept_dropped mid new (parts_kept w parts mid new served.others)).less in
+    let one : mid ≡ map (part_connection w part) old = part_none w part old mid served.served (omega (arith, first, more, e)) in
+    let all : new ≡ map (parts_connection w parts) mid = parts_none w parts mid new served.others (omega (arith, first, more, e)) in
+    all ∙ ap (map (parts_connection w parts)) one ∙ sym (parts_first w part parts old)
+
+-- each was told all of it, where as many are open as before
+pub served_none : (w : World) (n : Notice) (old new : List Connection) → NoticeServed w n old new → open_number new ≡ open_number old → new ≡ map (told_connection w n) old
+served_none w n old new served e = parts_none w (parts_of w n) old new served e
 
 -- ---- one connection
 

@@ -21,11 +21,32 @@ use Rattle.wc_core.proofs.TypedLemmas.{ascii_text}
 use Rattle.wc_core.specs.Contained.{Rest, state_with, RunsAt, Runs}
 use Rattle.wc_core.specs.Served.{clients_of}
 use Rattle.wc_session.specs.declared.client.Client.{Client}
-use Rattle.wc_core.specs.Changing.{put_step}
+use Rattle.wc_core.specs.Changing.{put_step, then_does, change_step_if, limit_change, limit_step}
+use Rattle.wc_core.proofs.ChainLemmas.{ClosesNone, Runs-cut, Runs-then}
+use Rattle.wc_core.proofs.ChangeCloses.{limits-closes}
+use Rattle.wc_model.specs.Apply.{refusal, refusal_of as change_refusal}
 use Rattle.wc_core.proofs.RunLemmas.{RunsAt-exact}
 use Rattle.wc_core.proofs.CountLemmas.{counts-none}
 use Rattle.wc_core.proofs.BoardStepLemmas.{by-same}
 use Rattle.wc_core.specs.BoardSteps.{board_of}
+
+-- ---- another limit of lines
+
+-- it is never refused
+pub limit-done : (old new : CoreView) (limit : ℕ) → Runs old new (λ state. change_step_if state (limit_change limit) (refusal state.world (limit_change limit))) → Runs old new (λ state. limit_step state (Some limit))
+unfolding change_refusal
+limit-done old new limit done = done
+
+-- where it was cut short nothing more is done
+pub limit-cut : (old new : CoreView) (limit asked : Option ℕ) (next : State → Stepped) → limit ≡ asked → new.cuts ≢ old.cuts → Runs old new (λ state. limit_step state limit) → Runs old new (λ state. then_does (limit_step state asked) next)
+limit-cut old new limit asked next e cut done =
+    let P : Option ℕ → Type 0 = λ o. Runs old new (λ state. then_does (limit_step state o) next) in
+    subst P e (Runs-cut old new (λ state. limit_step state limit) next (λ j state. limits-closes j state limit) cut done)
+
+pub limit-then : (old mid new : CoreView) (limit asked : Option ℕ) (next : State → Stepped) → ClosesNone next → limit ≡ asked → mid.cuts ≡ old.cuts → Runs old mid (λ state. limit_step state limit) → Runs mid new next → Runs old new (λ state. then_does (limit_step state asked) next)
+limit-then old mid new limit asked next none e uncut done more =
+    let P : Option ℕ → Type 0 = λ o. Runs old new (λ state. then_does (limit_step state o) next) in
+    subst P e (Runs-then old mid new (λ state. limit_step state limit) next (λ j state. limits-closes j state limit) none uncut done more)
 
 -- ---- the options after a command
 
@@ -131,7 +152,7 @@ range_text (row ∷ rows) (suc place) all = range_text rows place all.1
 global_ranges : AreRangesUtf8 globals
 unfolding globals
 global_ranges = (
-  ascii_text (codes "1 to 4096, read at the start") refl,
+  ascii_text (codes "1 to 4096") refl,
   (
     ascii_text (codes "text") refl,
     (

@@ -111,6 +111,7 @@ what_text (what.RemoveGroup name) utf8 = absurd utf8
 what_text (what.RemoveNick name) utf8 = absurd utf8
 what_text (what.ChangeGroup item) utf8 = absurd utf8
 what_text (what.ChangeNick item) utf8 = absurd utf8
+what_text (what.Limit limit) fits = fits
 
 -- what is typed touches no row of a nicklist
 pub untouched : (w : What) → WhatUtf8 w → touched_key w ≡ None
@@ -135,6 +136,7 @@ untouched (what.RemoveGroup name) utf8 = absurd utf8
 untouched (what.RemoveNick name) utf8 = absurd utf8
 untouched (what.ChangeGroup item) utf8 = absurd utf8
 untouched (what.ChangeNick item) utf8 = absurd utf8
+untouched (what.Limit limit) fits = refl
 
 pub told_text : (moment : ℕ) (text : List ℕ) → IsUtf8 text → IsChangeText (told_refusal moment text).what
 told_text moment text utf8 = record { tags = All-nil IsUtf8; prefix = ascii_text (codes "=!=") refl; message = utf8 }
@@ -299,6 +301,7 @@ refused_text world h (what.RemoveGroup name) utf8 = absurd utf8
 refused_text world h (what.RemoveNick name) utf8 = absurd utf8
 refused_text world h (what.ChangeGroup item) utf8 = absurd utf8
 refused_text world h (what.ChangeNick item) utf8 = absurd utf8
+refused_text world h (what.Limit limit) fits = tt
 
 -- what is told of a refused change is text
 pub refusal-utf8 : (world : World) (change : Change) (reason : ChangeRefused) → WhatUtf8 change.what → refusal world change ≡ Some reason → IsUtf8 (refusal_text reason)

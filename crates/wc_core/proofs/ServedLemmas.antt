@@ -328,6 +328,7 @@ is_close-other (what.RemoveGroup name) other = refl
 is_close-other (what.RemoveNick name) other = refl
 is_close-other (what.ChangeGroup item) other = refl
 is_close-other (what.ChangeNick item) other = refl
+is_close-other (what.Limit limit) other = refl
 
 -- before it nothing is done
 pub before-other : (old : CoreView) (change : Change) → (change.what ≡ what.Close → ⊥) → Runs old old (λ state. before_step state change)

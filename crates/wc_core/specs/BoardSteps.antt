@@ -12,7 +12,7 @@ use Rattle.wc_board.specs.declared.connection.Connection.{Connection}
 use Rattle.wc_board.specs.Answered.{IsPushed, IsAnswered}
 use Rattle.wc_board.specs.BoardView.{BoardView}
 use Rattle.wc_board.specs.Connections.{connection_link, is_open, left_at}
-use Rattle.wc_board.specs.Served.{told_connection, ConnectionsServed}
+use Rattle.wc_board.specs.Served.{NoticeServed}
 use Rattle.wc_board.specs.Told.{AreTouched, AreSameTouches}
 use Rattle.wc_core.specs.CoreView.{CoreView}
 
@@ -24,15 +24,14 @@ board_of core = record {
   connections = core.connections;
 }
 
--- a change was made, and told to each client that is open and asked for its event; one that found no
--- memory for it is leaving
+-- a change was made, and told to each client that is open and asked for it, in its parts; one that found
+-- no memory for one of them is leaving
 pub record TellsChange (old new : BoardView) : Type 0 where
   pub change : Change
   pub notice : Notice
   pub accepted : Accepted old.world change new.world notice
   pub touched : AreTouched old.world change old.pending new.pending
-  pub each : ConnectionsServed notice.kind notice.buffer.0 (told_connection new.world notice)
-      old.connections new.connections
+  pub each : NoticeServed new.world notice old.connections new.connections
 
 -- a request of an open client was answered, by the buffers as they then were
 pub record AnswersClient (old new : BoardView) : Type 0 where

@@ -5,6 +5,7 @@ use Rattle.wc_text.specs.declared.names.Handle.{Handle}
 use Rattle.wc_nickdiff.specs.declared.diff_item.Push.{Push}
 use Rattle.wc_nickdiff.specs.NickPush.{nick_push}
 use Rattle.wc_model.specs.declared.change.Change.{Change}
+use Rattle.wc_model.specs.declared.change.What.TheVariants.{Limit}
 use Rattle.wc_model.specs.declared.notice.Notice.{Notice}
 use Rattle.wc_model.specs.declared.refused.ChangeRefused.{ChangeRefused}
 use Rattle.wc_model.specs.World.{World, rows_at, root_at}
@@ -20,6 +21,7 @@ use Rattle.wc_options.specs.declared.refusal.SetRefused.TheVariants.{UnknownOpti
 use Rattle.wc_session.specs.declared.client.Client.{Client}
 use Rattle.wc_session.specs.Event.{notice_told, push_told}
 use Rattle.wc_session.specs.Sync.{after_event}
+use Rattle.wc_core.specs.Limits.{limit_set, limit_unset}
 use Rattle.wc_core.specs.Resolved.{refusal_text, option_text, told_refusal}
 use Rattle.wc_servers.specs.Outs.{Out}
 use Rattle.wc_core.specs.State.{State, Act, Sends, outs_of, Stage, Stepped, told_at}
@@ -145,6 +147,23 @@ unset_step_if state name (Some value) = put_step (record state {
 
 abbrev pub unset_step : State → List ℕ → Stepped
 unset_step state name = unset_step_if state name (value_of state.options name)
+
+-- another limit of lines is a change of no one buffer
+abbrev pub limit_change : ℕ → Change
+limit_change limit = record { buffer = record { 0 = 0 }; what = Limit limit }
+
+abbrev pub limit_step : State → Option ℕ → Stepped
+limit_step state None = no_step state
+limit_step state (Some limit) = change_step state (limit_change limit)
+
+-- A new limit of lines is in effect, and told, before the option has its value.
+abbrev pub set_effect_step : State → List ℕ → List ℕ → Stepped
+set_effect_step state name value = then_does (limit_step state (limit_set name value))
+    (λ state. set_step state name value)
+
+abbrev pub unset_effect_step : State → List ℕ → Stepped
+unset_effect_step state name = then_does (limit_step state (limit_unset name))
+    (λ state. unset_step state name)
 
 -- the options are saved as the text of their file
 abbrev pub save_step : State → Stepped

@@ -1,5 +1,6 @@
 -- The options that are numbers.
-use Rattle.std.specs.Prelude.{ℕ, List, unwrap_or, codes}
+use Rattle.std.specs.Prelude.{ℕ, List, Option, Some, None, unwrap_or, codes, if◌then◌else◌}
+use Rattle.std.specs.Str.{bytes_eq}
 use Rattle.wc_options.specs.Number.{number_in}
 use Rattle.wc_options.specs.Options.{OptionsValue}
 use Rattle.wc_session.specs.Heeded.{option_value}
@@ -9,10 +10,25 @@ use Rattle.wc_session.specs.Heeded.{option_value}
 abbrev pub number_or : ℕ → ℕ → List ℕ → ℕ
 number_or highest default value = unwrap_or (number_in 1 highest value) default
 
+-- the option of how many lines a buffer holds at most, its greatest number and its default
+abbrev pub lines_option : List ℕ
+lines_option = codes "weechat.history.max_buffer_lines_number"
+
+abbrev pub greatest_limit : ℕ
+greatest_limit = 4096
+
 -- how many lines a buffer holds at most
 unfoldable pub most_lines : OptionsValue → ℕ
-most_lines options = number_or 4096 4096
-    (option_value options (codes "weechat.history.max_buffer_lines_number"))
+most_lines options = number_or greatest_limit greatest_limit (option_value options lines_option)
+
+-- the limit of lines that an option gets with a value, where it is the option of that and the value may
+-- be one
+unfoldable pub limit_set : List ℕ → List ℕ → Option ℕ
+limit_set name value = if bytes_eq name lines_option then number_in 1 greatest_limit value else None
+
+-- the limit of lines that an option gets with its default
+unfoldable pub limit_unset : List ℕ → Option ℕ
+limit_unset name = if bytes_eq name lines_option then Some greatest_limit else None
 
 -- how many clients are open at most
 unfoldable pub client_limit : OptionsValue → ℕ

@@ -31,6 +31,7 @@ pub use Rattle.wc_core.specs.Changing.{then_does, sends, told_to}
 pub use Rattle.wc_core.specs.Changing.{tell_all_step, change_step, change_step_if, refusal_step}
 pub use Rattle.wc_core.specs.Changing.{ask_step_if, ask_step, pushed_to, push_at, pushes_of}
 pub use Rattle.wc_core.specs.Changing.{push_step, set_step_if, set_step, unset_step_if, unset_step}
+pub use Rattle.wc_core.specs.Changing.{limit_change, limit_step, set_effect_step, unset_effect_step}
 pub use Rattle.wc_core.specs.Changing.{save_step}
 use Rattle.wc_core.specs.ServerSteps.{before_step, quit_step, server_line_step, server_loss_step}
 use Rattle.wc_core.specs.ServerSteps.{stands_step}
@@ -44,8 +45,8 @@ effect_step state ResolvedEnds = quit_step state
 effect_step state (Tells text) = refusal_step state text
 effect_step state (Asks change) = then_does (before_step state change)
     (λ next. ask_step next change)
-effect_step state (SetsOption name value) = set_step state name value
-effect_step state (UnsetsOption name) = unset_step state name
+effect_step state (SetsOption name value) = set_effect_step state name value
+effect_step state (UnsetsOption name) = unset_effect_step state name
 effect_step state SavesOptions = save_step state
 
 -- what one line comes to that is typed into a buffer and that the core knows by itself

@@ -5,7 +5,7 @@ use Rattle.wc_model.specs.declared.change.What.TheVariants.{Add, Close, MoveTo, 
 use Rattle.wc_model.specs.declared.change.What.TheVariants.{Hide, Unhide, Rename, ShortName, Title}
 use Rattle.wc_model.specs.declared.change.What.TheVariants.{SetVar, RemoveVar, Print, Clear, Flips}
 use Rattle.wc_model.specs.declared.change.What.TheVariants.{AddGroup, AddNick, RemoveGroup}
-use Rattle.wc_model.specs.declared.change.What.TheVariants.{RemoveNick, ChangeGroup, ChangeNick}
+use Rattle.wc_model.specs.declared.change.What.TheVariants.{RemoveNick, ChangeGroup, ChangeNick, Limit}
 use Rattle.wc_world.specs.Texts.{IsChangeText}
 
 -- also the name of a variable that is to be taken out, which a refusal may tell
@@ -31,3 +31,4 @@ WhatUtf8 (RemoveGroup name) = ⊥
 WhatUtf8 (RemoveNick name) = ⊥
 WhatUtf8 (ChangeGroup item) = ⊥
 WhatUtf8 (ChangeNick item) = ⊥
+WhatUtf8 (Limit limit) = IsChangeText (Limit limit)

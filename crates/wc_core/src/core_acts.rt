@@ -24,8 +24,8 @@ use wc_model::{Change, What};
 use wc_servers::{is_change_text, is_utf8};
 use wc_text::{Cause, Handle, Items, LinkId, NoMemory, Text};
 
-/// The handle of no buffer, which a change has that adds one.
-const NULL: Handle = Handle(0);
+/// The handle of no buffer, which a change has that adds one or is of no one buffer.
+pub(crate) const NULL: Handle = Handle(0);
 
 /// What is to be done at this moment, in milliseconds since 1970: a line has it as its date.
 fn dated(moment: u64, what: What) -> What
@@ -164,7 +164,8 @@ impl Core {
         }
     }
 
-    /// Makes a change whose texts are UTF-8. A refusal is told or passed over.
+    /// Makes a change whose texts are UTF-8, and of which a limit of lines is one that there may be. A
+    /// refusal is told or passed over.
     fn try_change(&mut self, change: Change, tells: bool)
         ensures does { Runs self.old self.new (λ state. try_step tells state change) }
         ensures stays { ChangesBuffers self.old self.new }
@@ -208,7 +209,7 @@ impl Core {
     }
 
     /// Makes a change, or passes it over where it is refused.
-    fn make_change(&mut self, change: Change)
+    pub(crate) fn make_change(&mut self, change: Change)
         requires { IsChangeText change.what }
         ensures does { Runs self.old self.new
             (λ state. change_step_if state change (refusal state.world change)) }

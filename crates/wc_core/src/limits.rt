@@ -1,10 +1,17 @@
 //! The options that are numbers.
 
-ghost use Rattle.std.specs.Prelude.{◌≡◌, ◌≤◌};
-ghost use Rattle.wc_core.specs.Limits.{number_or, most_lines, client_limit, port_of};
+ghost use Rattle.std.specs.Prelude.{◌≡◌, ◌≤◌, IfSome};
+ghost use Rattle.wc_core.specs.Limits.{number_or, most_lines, limit_set, limit_unset};
+ghost use Rattle.wc_core.specs.Limits.{client_limit, port_of};
 
 use wc_options::{Options, number_in};
 use wc_session::option_value;
+
+/// The option of how many lines a buffer holds at most.
+const LINES: &[u8] = b"weechat.history.max_buffer_lines_number";
+
+/// The greatest number that it may have, which is its default too.
+const GREATEST_LIMIT: u32 = 4096;
 
 /// The number from 1 to the highest that a value writes, and the default where it writes none.
 fn number_or(value: &[u8], highest: u32, default: u32) -> u32
@@ -27,8 +34,32 @@ pub fn most_lines(options: &Options) -> u32
     ensures some { 1 ≤ result }
     ensures most { result ≤ 4096 }
 {
-    let value = option_value(options, b"weechat.history.max_buffer_lines_number");
-    number_or(value, 4096, 4096)
+    number_or(option_value(options, LINES), GREATEST_LIMIT, GREATEST_LIMIT)
+}
+
+/// The limit of lines that an option gets with a value, where it is the option of that and the value
+/// may be one.
+#[tactic(auto, unfolding(crate::specs::Limits::limit_set))]
+pub(crate) fn limit_set(name: &[u8], value: &[u8]) -> Option<u32>
+    ensures number { result ≡ limit_set name.now value.now }
+    ensures fits { IfSome result (λ limit. (1 ≤ limit) × (limit ≤ 4096)) }
+{
+    if name == LINES {
+        return number_in(value, 1, GREATEST_LIMIT);
+    }
+    None
+}
+
+/// The limit of lines that an option gets with its default, where it is the option of that.
+#[tactic(auto, unfolding(crate::specs::Limits::limit_unset))]
+pub(crate) fn limit_unset(name: &[u8]) -> Option<u32>
+    ensures number { result ≡ limit_unset name.now }
+    ensures fits { IfSome result (λ limit. (1 ≤ limit) × (limit ≤ 4096)) }
+{
+    if name == LINES {
+        return Some(GREATEST_LIMIT);
+    }
+    None
 }
 
 /// How many clients are open at most by `relay.network.max_clients`.

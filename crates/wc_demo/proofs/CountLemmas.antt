@@ -5,9 +5,9 @@ use Rattle.std.proofs.lemmas.List.{flat_map_more, take_all, take_more}
 use Rattle.std.proofs.lemmas.List.Elements.{filter-append}
 use Rattle.std.proofs.lemmas.List.Sums.{sum_by_push}
 use Rattle.wc_lines.specs.declared.line.Line.{Line}
-use Rattle.wc_lines.specs.Held.{RingView}
 use Rattle.wc_nicklist.specs.declared.item.Row.{Row}
 use Rattle.wc_buffers.specs.Groups.{rows}
+use Rattle.wc_world.specs.Kept.{LinesView}
 use Rattle.wc_demo.specs.declared.counts.Counts.{Counts}
 use Rattle.wc_demo.specs.Counts.{nicks_in, counted_by}
 
@@ -47,12 +47,12 @@ group_end count xs group i all m e = e ∙ ap (λ t. count (xs ++ t)) (take_all 
 
 -- ---- what is there
 
-abbrev pub ring : ℕ → ℕ → List Line → RingView
+abbrev pub ring : ℕ → ℕ → List Line → LinesView
 ring limit count lines = record { limit = limit; lines = lines; pushed = count }
 
-pub held_lines : (o : Option (List Line)) (limit count : ℕ) (held : RingView) → Some held ≡ option_map (ring limit count) o → length held.lines ≡ length (unwrap_or o [])
+pub held_lines : (o : Option (List Line)) (limit count : ℕ) (held : LinesView) → Some held ≡ option_map (ring limit count) o → length held.lines ≡ length (unwrap_or o [])
 held_lines None limit count held e = cc
-held_lines (Some lines) limit count held e = let f : held ≡ record { limit = limit; lines = lines; pushed = count } = cc in ap (λ (h : RingView). length h.lines) f
+held_lines (Some lines) limit count held e = let f : held ≡ record { limit = limit; lines = lines; pushed = count } = cc in ap (λ (h : LinesView). length h.lines) f
 
 pub no_lines : (o : Option (List Line)) (limit count : ℕ) → None ≡ option_map (ring limit count) o → 0 ≡ length (unwrap_or o [])
 no_lines None limit count e = refl

@@ -37,5 +37,5 @@ pub record TakesBoth (old : MirrorParts) (sent unsent : List ℕ) (new : MirrorP
 -- follows the three dumps of the client
 pub record IsCountedBy (limit : ℕ) (sent unsent : List ℕ) (counts : Counts) : Type 0 where
   pub parts : MirrorParts
-  pub taken : TakesBoth (nothing_taken limit (codes "b") (codes "l") (codes "n")) sent unsent parts
+  pub taken : TakesBoth (nothing_taken (Some limit) (codes "b") (codes "l") (codes "n")) sent unsent parts
   pub are : counts ≡ mirror_counts_of parts

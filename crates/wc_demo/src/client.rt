@@ -1,6 +1,6 @@
 //! What the client has by all that it was sent.
 
-ghost use Rattle.std.specs.Prelude.{◌≡◌, ◌<◌, ◌≤◌, ◌∷◌, [], IfOk, IfSome, OnOk, length, codes};
+ghost use Rattle.std.specs.Prelude.{◌≡◌, ◌<◌, ◌≤◌, ◌∷◌, [], IfOk, IfSome, OnOk, Some, length, codes};
 ghost use Rattle.wc_view.specs.Ids.{AreIds};
 ghost use Rattle.wc_view.specs.Taking.{nothing_taken};
 ghost use Rattle.wc_demo.specs.Client.{TakesOne, TakesAll, TakesBoth, IsCountedBy};
@@ -26,7 +26,7 @@ fn ids(alloc: Global) -> Result<[Text; 3], NoMemory>
 fn new_mirror(alloc: Global, limit: u32) -> Result<Mirror, NoMemory>
     requires { 1 ≤ limit }
     ensures { IfOk result (λ mirror. mirror
-        ≡ nothing_taken limit (codes "b") (codes "l") (codes "n")) }
+        ≡ nothing_taken (Some limit) (codes "b") (codes "l") (codes "n")) }
 {
     let dumps = ids(alloc)?;
     Mirror::new(alloc, limit, dumps)

@@ -10,6 +10,7 @@ use Rattle.wc_buffers.specs.declared.row.BufferEntry.{BufferEntry}
 use Rattle.wc_buffers.specs.Kept.{AreVars, IsBuffer}
 use Rattle.wc_lines.specs.declared.line.Line.{Line}
 use Rattle.wc_model.specs.declared.notice.Notice.{Notice}
+use Rattle.wc_model.specs.declared.notice.Trim.{Trim}
 use Rattle.wc_objects.specs.declared.kind.Kind.{Kind}
 use Rattle.wc_objects.specs.declared.kind.Kind.TheVariants as k
 use Rattle.wc_objects.specs.declared.object.Object.{Object}
@@ -21,7 +22,7 @@ use Rattle.wc_objects.specs.Forms.{kinds_of, simple_is, value_is, values_are, it
 use Rattle.wc_keys.specs.declared.key.KeyList.TheVariants as l
 use Rattle.wc_keys.specs.Events.{buffer_path, line_path}
 use Rattle.wc_keys.proofs.ListTexts.{list_is_text, list_names_kinds, buffer_path_is_text, line_path_is_text}
-use Rattle.wc_events.specs.BufferObjects.{text, pair_of, table, about, told_objects, named_keys, placed_keys, opened_keys, renamed_keys, title_keys, vars_keys, named_values, placed_values, opened_values, renamed_values, title_values, vars_values, named_objects, placed_objects, opened_objects, renamed_objects, title_objects, vars_objects, flag_keys, flag_item, flag_items, flag_objects, is_flipped}
+use Rattle.wc_events.specs.BufferObjects.{text, pair_of, table, about, told_objects, named_keys, placed_keys, opened_keys, renamed_keys, title_keys, vars_keys, named_values, placed_values, opened_values, renamed_values, title_values, vars_values, named_objects, placed_objects, opened_objects, renamed_objects, title_objects, vars_objects, flag_keys, flag_item, flag_items, flag_objects, is_flipped, trim_keys, trim_values, trim_objects}
 use Rattle.wc_events.proofs.Formed.{int_formed, ptr_formed, chr_formed, str_formed}
 
 pairs_simple : (vars : List Pair) → AreVars vars → list_all (λ pair. simple_is k.Str pair.0 && simple_is k.Str pair.1) (map pair_of vars) ≡ true
@@ -86,6 +87,11 @@ unfolding vars_values
 vars_formed notice e h is =
     about_formed vars_keys _ notice.buffer (vars_values notice e) (list_is_text l.Variables) (list_names_kinds l.Variables)
     (rw (int_formed, str_formed notice.full_name h, table_formed e.vars is.vars) refl)
+
+pub trims_formed : (trim : Trim) → well_formed (trim_objects trim) ≡ true
+unfolding trim_values
+trims_formed trim =
+    about_formed trim_keys _ trim.buffer (trim_values trim) (list_is_text l.Trimmed) (list_names_kinds l.Trimmed) (rw (ptr_formed trim.buffer.0, int_formed) refl)
 
 -- ---- what is told of a buffer that is there
 

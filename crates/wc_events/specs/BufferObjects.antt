@@ -15,6 +15,7 @@ use Rattle.wc_buffers.specs.Vars.{value_of}
 use Rattle.wc_model.specs.declared.notice.EventKind.{EventKind}
 use Rattle.wc_model.specs.declared.notice.EventKind.TheVariants as kind
 use Rattle.wc_model.specs.declared.notice.Notice.{Notice}
+use Rattle.wc_model.specs.declared.notice.Trim.{Trim}
 use Rattle.wc_model.specs.World.{World, lines_at}
 use Rattle.wc_objects.specs.declared.kind.Kind.TheVariants as k
 use Rattle.wc_objects.specs.declared.object.Object.{Object}
@@ -161,8 +162,30 @@ vars_objects notice e = about vars_keys notice.buffer (vars_values notice e)
 abbrev pub named_objects : Notice → List Object
 named_objects notice = about named_keys notice.buffer (named_values notice)
 
+-- ---- how many of the oldest lines of a buffer went
+
+abbrev pub trim_value : Trim → Key → Option Object
+trim_value trim key.Buffer = Some (o.Ptr trim.buffer.0)
+trim_value trim key.Trimmed = Some (o.Int (count trim.count))
+trim_value trim _ = None
+
+abbrev pub trim_keys : List ℕ
+trim_keys = list_text l.Trimmed
+
+unfoldable pub trim_values : Trim → List Object
+trim_values trim = filter_map (trim_value trim) (keys_in l.Trimmed)
+
+abbrev pub trim_objects : Trim → List Object
+trim_objects trim = about trim_keys trim.buffer (trim_values trim)
+
+-- a notice of lines that went is of one buffer
+abbrev pub trimmed_objects : List Trim → Option (List Object)
+trimmed_objects [] = None
+trimmed_objects (trim ∷ trims) = Some (trim_objects trim)
+
 -- The objects of the event of a notice, in the world after the change. Flags of lines are told of
--- each buffer by itself, nicklists are pushed, and nothing is told of a buffer that is not there.
+-- each buffer by itself, nicklists are pushed, of another limit the lines that went are told, and
+-- nothing is told of a buffer that is not there.
 unfoldable pub objects_of : World → EventKind → Notice → Option (List Object)
 objects_of world kind.Opened notice = option_map (opened_objects notice)
     (entry_of notice.buffer world.groups)
@@ -189,6 +212,8 @@ objects_of world kind.LineDataChanged notice = None
 objects_of world kind.Nicklist notice = None
 objects_of world kind.NicklistDiff notice = None
 objects_of world kind.NickTouched notice = None
+objects_of world kind.LimitSet notice = None
+objects_of world kind.LinesTrimmed notice = trimmed_objects notice.trims
 
 abbrev pub event_objects : World → Notice → Option (List Object)
 event_objects world notice = objects_of world notice.kind notice

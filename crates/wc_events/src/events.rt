@@ -12,6 +12,7 @@ ghost use Rattle.wc_objects.specs.Forms.{well_formed};
 use crate::buffers::row_and_vars;
 use crate::event_values::{noticed_values, told_values};
 use crate::line_objects::line_added;
+use crate::trims::first_trimmed;
 use crate::values::about;
 use std::alloc::Global;
 use wc_buffers::Buffers;
@@ -81,8 +82,8 @@ fn newest_told(
 }
 
 /// The object of the event of a notice, in the world after the change. None where nothing is told
-/// in one event: of flags of lines, of nicklists, which are pushed, and of a buffer or a line that
-/// is not there.
+/// in one event: of flags of lines, of nicklists, which are pushed, of another limit of lines, and of
+/// a buffer or a line that is not there.
 #[rattlefmt::skip]
 #[tactic(auto, using(
     crate::proofs::EventsFormed::opened_told,
@@ -119,9 +120,11 @@ pub fn event_objects(
         }
         EventKind::Cleared | EventKind::Closing => Ok(Some(named_object(alloc, notice)?)),
         EventKind::LineAdded => newest_told(alloc, world, notice.buffer),
+        EventKind::LinesTrimmed => first_trimmed(alloc, &notice.trims),
         EventKind::LineDataChanged
         | EventKind::Nicklist
         | EventKind::NicklistDiff
-        | EventKind::NickTouched => Ok(None),
+        | EventKind::NickTouched
+        | EventKind::LimitSet => Ok(None),
     }
 }

@@ -15,6 +15,7 @@ mod nick_rooms;
 mod nick_writer;
 mod nicks;
 pub mod parts;
+mod trims;
 mod value_bytes;
 mod values;
 
@@ -23,4 +24,5 @@ pub use flags::flag_objects;
 pub use line_objects::line_added;
 pub use nick_writer::write_nicks;
 pub use nicks::{Nicks, push_kind};
+pub use trims::trim_objects;
 pub use wc_keys::event_id;

@@ -155,6 +155,7 @@ keyed k.Color = record { whole = refl; kind = refl; small = refl }
 keyed k.PrefixColor = record { whole = refl; kind = refl; small = refl }
 keyed k.Priority = record { whole = refl; kind = refl; small = refl }
 keyed k.Unread = record { whole = refl; kind = refl; small = refl }
+keyed k.Trimmed = record { whole = refl; kind = refl; small = refl }
 keyed k.Context = record { whole = refl; kind = refl; small = refl }
 keyed k.BaseWord = record { whole = refl; kind = refl; small = refl }
 keyed k.PosStart = record { whole = refl; kind = refl; small = refl }

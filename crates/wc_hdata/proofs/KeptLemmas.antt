@@ -13,6 +13,7 @@ use Rattle.wc_buffers.specs.Kept.{handles}
 use Rattle.wc_buffers.specs.declared.row.BufferEntry.{BufferEntry}
 use Rattle.wc_buffers.proofs.GroupLaws.{by_bool, list_any-map}
 use Rattle.wc_model.specs.World.{World}
+use Rattle.wc_world.specs.Kept.{LinesView, lines_view}
 use Rattle.wc_hdata.specs.declared.count.Count.{Count}
 use Rattle.wc_hdata.specs.declared.count.Count.TheVariants.{One}
 use Rattle.wc_hdata.specs.declared.element.Element.{Element}
@@ -43,9 +44,9 @@ pub lines_held : (world : World) (buffer : Handle) (lines : List Line) → is_th
 lines_held world buffer lines there text =
     all_map HasUtf8Texts (IsHeld world) (held_by buffer) (λ line utf8. record { text = utf8; there = there }) lines (all_of HasUtf8Texts lines text)
 
-pub lines_of_ring : (o : Option (List Line)) (limit count : ℕ) (ring : RingView) → Some ring ≡ option_map (λ (lines : List Line). record { limit = limit; lines = lines; pushed = count }) o → unwrap_or o [] ≡ ring.lines
+pub lines_of_ring : (o : Option (List Line)) (limit count : ℕ) (ring : RingView) → Some (lines_view ring) ≡ option_map (λ (lines : List Line). record { limit = limit; lines = lines; pushed = count }) o → unwrap_or o [] ≡ ring.lines
 lines_of_ring None limit count ring e = absurd (cc)
-lines_of_ring (Some lines) limit count ring e = let same : ring ≡ record { limit = limit; lines = lines; pushed = count } = cc in ap (λ (r : RingView). r.lines) (sym same)
+lines_of_ring (Some lines) limit count ring e = let same : lines_view ring ≡ record { limit = limit; lines = lines; pushed = count } = cc in ap (λ (view : LinesView). view.lines) (sym same)
 
 -- ---- buffers
 

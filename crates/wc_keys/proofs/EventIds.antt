@@ -27,6 +27,8 @@ id_is_text kind.LineDataChanged = refl
 id_is_text kind.Nicklist = refl
 id_is_text kind.NicklistDiff = refl
 id_is_text kind.NickTouched = refl
+id_is_text kind.LimitSet = refl
+id_is_text kind.LinesTrimmed = refl
 
 pub id_text : (k : EventKind) → IsUtf8 (id_of k)
 id_text k = IsUtf8-from_is_utf8 (id_of k) (id_is_text k)

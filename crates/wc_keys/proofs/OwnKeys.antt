@@ -25,6 +25,8 @@ own_not_told kind.LineDataChanged on = refl
 own_not_told kind.Nicklist on = absurd (cc)
 own_not_told kind.NicklistDiff on = absurd (cc)
 own_not_told kind.NickTouched on = absurd (cc)
+own_not_told kind.LimitSet on = refl
+own_not_told kind.LinesTrimmed on = refl
 
 pub own_not_dumped : has_own l.Dump ≡ false
 own_not_dumped = refl

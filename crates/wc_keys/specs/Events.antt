@@ -41,6 +41,8 @@ event_row kind.LineDataChanged = (codes "_buffer_line_data_changed", line_path, 
 event_row kind.Nicklist = (codes "_nicklist", nick_path, l.Nicks, asked.Nicklist)
 event_row kind.NicklistDiff = (codes "_nicklist_diff", nick_path, l.Diff, asked.Nicklist)
 event_row kind.NickTouched = (codes "", nick_path, l.Nicks, asked.Nothing)
+event_row kind.LimitSet = (codes "", buffer_path, l.Named, asked.Nothing)
+event_row kind.LinesTrimmed = (codes "_buffer_lines_trimmed", buffer_path, l.Trimmed, asked.Trims)
 
 abbrev pub id_of : EventKind → List ℕ
 id_of kind = (event_row kind).0

@@ -47,6 +47,7 @@ key_row k.Color = (codes "color", kinds.Str, false)
 key_row k.PrefixColor = (codes "prefix_color", kinds.Str, false)
 key_row k.Priority = (codes "priority", kinds.Int, false)
 key_row k.Unread = (codes "count", kinds.Arr, false)
+key_row k.Trimmed = (codes "count", kinds.Int, false)
 key_row k.Context = (codes "context", kinds.Str, false)
 key_row k.BaseWord = (codes "base_word", kinds.Str, false)
 key_row k.PosStart = (codes "pos_start", kinds.Int, false)
@@ -63,7 +64,7 @@ kind_of_key key = (key_row key).1
 abbrev pub is_own : Key → Bool
 is_own key = (key_row key).2
 
--- each key has a name of its own
+-- whether keys are written the same; in each list every key has a name of its own
 abbrev pub same_key : Key → Key → Bool
 same_key a b = bytes_eq (key_name a) (key_name b)
 
@@ -94,6 +95,7 @@ keys_in l.Titled = k.Number ∷ k.FullName ∷ k.Title ∷ []
 keys_in l.Variables = k.Number ∷ k.FullName ∷ k.LocalVariables ∷ []
 keys_in l.Named = k.Number ∷ k.FullName ∷ []
 keys_in l.Flags = k.Buffer ∷ k.Displayed ∷ []
+keys_in l.Trimmed = k.Buffer ∷ k.Trimmed ∷ []
 keys_in l.Nicks = nick_keys
 keys_in l.Diff = k.Diff ∷ nick_keys
 keys_in l.Hotlist = k.Priority ∷ k.Buffer ∷ k.Unread ∷ []

@@ -30,6 +30,8 @@ pub enum Asked {
     Either,
     /// `nicklist`.
     Nicklist,
+    /// `trims`.
+    Trims,
     /// No option: no client is told of it.
     Nothing,
 }
@@ -126,10 +128,18 @@ fn event_row(kind: EventKind) -> EventRow
         EventKind::Nicklist => nick_row(b"_nicklist", KeyList::Nicks, Asked::Nicklist),
         EventKind::NicklistDiff => nick_row(b"_nicklist_diff", KeyList::Diff, Asked::Nicklist),
         EventKind::NickTouched => nick_row(b"", KeyList::Nicks, Asked::Nothing),
+        EventKind::LimitSet => row(b"", BUFFER_PATH, KeyList::Named, Asked::Nothing),
+        EventKind::LinesTrimmed => row(
+            b"_buffer_lines_trimmed",
+            BUFFER_PATH,
+            KeyList::Trimmed,
+            Asked::Trims,
+        ),
     }
 }
 
-/// The id under which an event is told. A touch of a nicklist is told under none.
+/// The id under which an event is told. A touch of a nicklist and another limit of lines are told under
+/// none.
 pub fn event_id(kind: EventKind) -> &'static [u8]
     ensures id { result.now ≡ id_of kind }
     ensures text { IsUtf8 result.now }

@@ -78,6 +78,8 @@ pub enum Key {
     Priority,
     /// `count`, how many lines of a buffer were not read, for each level.
     Unread,
+    /// `count`, how many of the oldest lines of a buffer went.
+    Trimmed,
     /// `context`, what a word that is to be completed is.
     Context,
     /// `base_word`, the word that is to be completed.
@@ -167,6 +169,7 @@ impl Key {
             Key::PrefixColor => row(b"prefix_color", Kind::Str),
             Key::Priority => row(b"priority", Kind::Int),
             Key::Unread => row(b"count", Kind::Arr),
+            Key::Trimmed => row(b"count", Kind::Int),
             Key::Context => row(b"context", Kind::Str),
             Key::BaseWord => row(b"base_word", Kind::Str),
             Key::PosStart => row(b"pos_start", Kind::Int),
@@ -196,7 +199,8 @@ impl Key {
         self.row().is_own
     }
 
-    /// Whether two keys are the same, which are then written the same.
+    /// Whether two keys are written the same. No list has two such, so that two keys of one list are
+    /// then the same.
     pub fn is(self, other: Key) -> bool
         ensures { result ≡ same_key self other }
     {
@@ -333,6 +337,8 @@ pub enum KeyList {
     Named,
     /// What is told of lines whose flag is another.
     Flags,
+    /// What is told of a buffer whose oldest lines went.
+    Trimmed,
     /// What is told of the groups and nicks of a list.
     Nicks,
     /// What is told of each change of such a list.
@@ -366,6 +372,7 @@ impl KeyList {
             KeyList::Variables => &[Key::Number, Key::FullName, Key::LocalVariables],
             KeyList::Named => &[Key::Number, Key::FullName],
             KeyList::Flags => &[Key::Buffer, Key::Displayed],
+            KeyList::Trimmed => &[Key::Buffer, Key::Trimmed],
             KeyList::Nicks => NICKS,
             KeyList::Diff => DIFF,
             KeyList::Hotlist => &[Key::Priority, Key::Buffer, Key::Unread],
@@ -391,6 +398,7 @@ impl KeyList {
             KeyList::Variables => b"number:int,full_name:str,local_variables:htb",
             KeyList::Named => b"number:int,full_name:str",
             KeyList::Flags => b"buffer:ptr,displayed:chr",
+            KeyList::Trimmed => b"buffer:ptr,count:int",
             KeyList::Nicks => NICKS_TEXT,
             KeyList::Diff => DIFF_TEXT,
             KeyList::Hotlist => b"priority:int,buffer:ptr,count:arr",

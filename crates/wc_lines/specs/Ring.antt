@@ -1,5 +1,5 @@
 -- What the calls do to the lines.
-use Rattle.std.specs.Prelude.{ℕ, ◌+◌, ◌-◌, ◌^◌, min, Bool, ◌==◌, List, [], ◌∷◌, ◌++◌, length, drop, Option, Some}
+use Rattle.std.specs.Prelude.{ℕ, ◌+◌, ◌-◌, ◌^◌, min, max, Bool, ◌==◌, List, [], ◌∷◌, ◌++◌, length, drop, Option, Some}
 use Rattle.std.specs.Prelude.{None, if◌then◌else◌}
 use Rattle.std.specs.List.{list_any, position, slice_get}
 use Rattle.wc_text.specs.declared.names.Handle.{Handle}
@@ -34,6 +34,15 @@ pushed_out held = if length held.lines == held.limit then slice_get held.lines 0
 
 abbrev pub without_lines : RingView → RingView
 without_lines held = record held { lines = [] }
+
+-- there is room for so many lines at least
+abbrev pub with_room : ℕ → RingView → RingView
+with_room limit held = record held { room = max held.room limit }
+
+-- as many lines are held at most from now on, and the oldest above that are not held any more
+abbrev pub with_limit : ℕ → RingView → RingView
+with_limit limit held =
+    record held { lines = last_of limit held.lines; limit = limit }
 
 -- the place of the first line with this content handle
 abbrev pub place_of : Handle → List Line → Option ℕ

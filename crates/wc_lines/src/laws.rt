@@ -2,8 +2,9 @@
 
 ghost use Rattle.wc_lines.specs.History.{HeldIsLast};
 
-/// After any pushes and clears the lines are the last ones, up to the limit, of those that were
-/// pushed since the last clear, and every push was counted.
+/// After any calls the lines are those that were pushed since the last clear without the oldest that
+/// were dropped, and every push was counted. A clear sets the number of dropped lines to 0. A push
+/// and a change of the limit raise it by as much as the lines that are held pass the limit.
 pub fn held_is_last()
     ensures { HeldIsLast }
 {}

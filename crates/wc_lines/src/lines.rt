@@ -1,10 +1,12 @@
-ghost use Rattle.std.specs.Prelude.{◌≡◌, ◌≤◌, ◌++◌, ◌∷◌, [], length, map, IfOk, IfSome, All};
+ghost use Rattle.std.specs.Prelude.{◌≡◌, ◌≤◌, ◌-◌, ◌++◌, ◌∷◌, [], length, map, IfOk, IfSome, All};
+ghost use Rattle.std.specs.Prelude.{OnOk, OnErr};
+ghost use Rattle.std.specs.VecDeque.{deque_capacity};
 ghost use Rattle.std.specs.Prelude.{IsTrue, ◌↔◌, option_copied, slice_get};
 ghost use Rattle.std.specs.Iterator.{YieldsFirstRef, item_count};
 ghost use Rattle.wc_lines.specs.Flags.{flag_at, with_own_flag, with_flags};
 ghost use Rattle.wc_lines.specs.Held.{no_lines};
 ghost use Rattle.wc_lines.specs.Ring.{with_line, pushed_out, without_lines, with_displayed};
-ghost use Rattle.wc_lines.specs.Ring.{has_content, place_of, newest};
+ghost use Rattle.wc_lines.specs.Ring.{has_content, last_of, place_of, newest, with_room, with_limit};
 ghost use Rattle.wc_lines.specs.LinesLeft.{lines_left};
 ghost use Rattle.wc_lines.specs.LineText.{HasUtf8Texts};
 
@@ -18,14 +20,17 @@ use wc_text::{Handle, NoMemory};
 pub type Flags = HashMap<u64, bool>;
 
 /// The newest lines of a buffer, up to a limit. Contracts see the limit, the list, from the oldest,
-/// and how many lines were ever pushed.
+/// how many lines were ever pushed, and for how many there is room.
 ///
-/// The room for all of them is taken at the making, so that no later call takes memory.
+/// The room for all of them is taken at the making, and for a greater limit before that is set, so
+/// that no other call takes memory.
 #[derive(Drop)]
 pub struct Lines {
     limit: u32,
     /// How many lines were ever pushed. It stops at the greatest number.
     pushed: u64,
+    /// For how many lines room was made.
+    room: u32,
     queue: VecDeque<PackedLine>,
 }
 
@@ -52,6 +57,7 @@ impl Lines {
         Ok(Lines {
             limit,
             pushed: 0,
+            room: limit,
             queue,
         })
     }
@@ -72,6 +78,35 @@ impl Lines {
         let oldest = self.queue.pop_front();
         self.queue.push_back_reserved(line);
         oldest
+    }
+
+    /// Makes room for so many lines, so that they may become the limit. Where memory is refused
+    /// nothing changes.
+    pub fn make_room(&mut self, limit: u32) -> Result<(), NoMemory>
+        ensures ok { OnOk result (self.new ≡ with_room limit self.old) }
+        ensures err { OnErr result (self.new ≡ self.old) }
+    {
+        if limit <= self.room {
+            return Ok(());
+        }
+        reserve(&mut self.queue, limit as usize)?;
+        self.room = limit;
+        Ok(())
+    }
+
+    /// Holds so many lines at most from now on. The oldest above that are taken out, and their
+    /// number is answered. It takes no memory, since there is room for them.
+    pub fn set_limit(&mut self, limit: u32) -> u32
+        requires some { 1 ≤ limit }
+        requires most { limit ≤ 4096 }
+        requires room { limit ≤ self.old.room }
+        ensures held { self.new ≡ with_limit limit self.old }
+        ensures dropped { result ≡ length self.old.lines - limit }
+    {
+        let dropped = self.len().saturating_sub(limit);
+        keep_last(&mut self.queue, limit as usize);
+        self.limit = limit;
+        dropped
     }
 
     /// Takes all lines out. The count of those that were pushed stays.
@@ -151,6 +186,27 @@ impl Lines {
         ensures { self.new ≡ with_flags (flag_at flags.now) self.old }
     {
         set_flags(self.queue.make_contiguous(), flags);
+    }
+}
+
+/// Makes room for so many lines in all. Where memory is refused the lines stay.
+fn reserve(lines: &mut VecDeque<PackedLine>, limit: usize) -> Result<(), NoMemory>
+    ensures items { lines.new.items ≡ lines.old.items }
+    ensures kept { deque_capacity lines.old ≤ deque_capacity lines.new }
+    ensures room { OnOk result (limit ≤ deque_capacity lines.new) }
+{
+    lines.reserve(limit.saturating_sub(lines.len()))?;
+    Ok(())
+}
+
+/// Takes the oldest lines out until so many are left.
+#[tactic(auto, using(crate::proofs::KeepLast::keep_last_facts))]
+fn keep_last(lines: &mut VecDeque<PackedLine>, limit: usize)
+    ensures items { lines.new.items ≡ last_of limit lines.old.items }
+    ensures room { deque_capacity lines.new ≡ deque_capacity lines.old }
+{
+    while lines.len() > limit {
+        drop(lines.pop_front());
     }
 }
 

@@ -19,7 +19,7 @@ use Rattle.wc_core.specs.Served.{state_of, sent_to}
 use Rattle.wc_mirror_laws.specs.Held.{HeldPart}
 use Rattle.wc_mirror_laws.specs.Bytes.{ShowsPart}
 use Rattle.wc_mirror_laws.specs.Mirrors.{beginning, IsShortLine}
-use Rattle.wc_mirror_laws.specs.Settled.{SettledBy, is_following}
+use Rattle.wc_mirror_laws.specs.Settled.{SettledBy, IsLimited, is_following}
 use Rattle.wc_mirror_laws.proofs.BytesLemmas.{part_shows}
 use Rattle.wc_options.specs.Config.{config_of}
 use Rattle.wc_options.specs.Options.{OptionsValue}
@@ -107,27 +107,28 @@ short-from before (h ∷ hs) = short-append (events_of before h) (events_from (b
 
 -- ---- a client that settled is open
 
-open-client : (P : Type 0) (o : Option Client) → is_following o ≡ true → ((client : Client) → o ≡ Some client → P) → P
-open-client P None e f = absurd (false≢true e)
-open-client P (Some client) e f = f client refl
+open-client : (P : Type 0) (limit : Option ℕ) (o : Option Client) → is_following limit o ≡ true → ((client : Client) → o ≡ Some client → P) → P
+open-client P limit None e f = absurd (false≢true e)
+open-client P limit (Some client) e f = f client refl
 
-shows-by : (oracle : Oracle) (commands : List (List ℕ)) (connects : Bool) (texts : AllByRecursion IsUtf8 commands) (options : OptionsValue) (limit : ℕ) (seen : Seen) (last : Headless) → limit ≤ 4096 → (handed : HandsOut (beginning oracle options limit commands connects) seen last) (which : HeldPart) (link : ℕ) (id : List ℕ) → 1 ≤ link → socket_on link seen.taken ≡ false → SettledBy which link id (beginning oracle options limit commands connects) handed.events
-    → ShowsPart which limit id (seen.sent link ++ unsent_on link last.core.connections) (state_of last.core (beside (run (beginning oracle options limit commands connects) handed.events).state))
-shows-by oracle commands connects texts options limit seen last most handed which link id one plain settled =
-    let first = beginning oracle options limit commands connects in
+shows-by : (oracle : Oracle) (commands : List (List ℕ)) (connects : Bool) (texts : AllByRecursion IsUtf8 commands) (options : OptionsValue) (lines : ℕ) (seen : Seen) (last : Headless) → lines ≤ 4096 → (handed : HandsOut (beginning oracle options lines commands connects) seen last) (which : HeldPart) (limit : Option ℕ) (link : ℕ) (id : List ℕ) → 1 ≤ link → socket_on link seen.taken ≡ false → SettledBy limit which link id (beginning oracle options lines commands connects) handed.events
+    → IsLimited limit last.core.world
+    → ShowsPart which limit id (seen.sent link ++ unsent_on link last.core.connections) (state_of last.core (beside (run (beginning oracle options lines commands connects) handed.events).state))
+shows-by oracle commands connects texts options lines seen last most handed which limit link id one plain settled limited =
+    let first = beginning oracle options lines commands connects in
     let means : State = state_of last.core (beside (run first handed.events).state) in
     let short = short-front handed.events handed.reaches.rest (subst (AllByRecursion IsShortLine) handed.reaches.front (short-from [] handed.history)) in
-    let shows : ShowsPart which limit id (sent_to link (run first handed.events).acts) (run first handed.events).state = part_shows which oracle options limit commands connects handed.events link id most texts short settled in
-    let bytes = open-client _ (at_key client_link link (run first handed.events).state.clients) settled.still (λ client there. handed.opened link client one plain there) in
+    let shows : ShowsPart which limit id (sent_to link (run first handed.events).acts) (run first handed.events).state = part_shows which limit oracle options lines commands connects handed.events link id most texts short settled (subst (λ (state : State). IsLimited limit state.world) (sym handed.means.same) limited) in
+    let bytes = open-client _ limit (at_key client_link link (run first handed.events).state.clients) settled.still (λ client there. handed.opened link client one plain there) in
     subst (λ sent. ShowsPart which limit id sent means) (sym bytes) (subst (λ state. ShowsPart which limit id (sent_to link (run first handed.events).acts) state) handed.means.same shows)
 
 pub ClientsHoldDumps-known : (opening : Opening) → AllByRecursion IsUtf8 opening.commands → (contents : Option (List ℕ)) (seen : Seen) (last : Headless) → ClientsHoldDumps opening contents seen last
 ClientsHoldDumps-known opening texts None seen last = tt
 ClientsHoldDumps-known opening texts (Some kept) seen last = go (config_of kept)
   where
-    go : (r : Result OptionsValue ℕ) → IfOk r (λ options. (oracle : Oracle) (handed : HandsOut (state_before oracle options opening) seen last) (which : HeldPart) (link : ℕ) (id : List ℕ) → 1 ≤ link → socket_on link seen.taken ≡ false → SettledBy which link id (state_before oracle options opening) handed.events
-        → ShowsPart which (most_lines options) id (seen.sent link ++ unsent_on link last.core.connections) (state_of last.core (beside (run (state_before oracle options opening) handed.events).state)))
-    go (Ok options) = λ oracle handed which link id one plain settled. shows-by oracle opening.commands (not opening.holds) texts options (most_lines options) seen last (limit_most options) handed which link id one plain settled
+    go : (r : Result OptionsValue ℕ) → IfOk r (λ options. (oracle : Oracle) (handed : HandsOut (state_before oracle options opening) seen last) (which : HeldPart) (limit : Option ℕ) (link : ℕ) (id : List ℕ) → 1 ≤ link → socket_on link seen.taken ≡ false → SettledBy limit which link id (state_before oracle options opening) handed.events
+        → IsLimited limit last.core.world → ShowsPart which limit id (seen.sent link ++ unsent_on link last.core.connections) (state_of last.core (beside (run (state_before oracle options opening) handed.events).state)))
+    go (Ok options) = λ oracle handed which limit link id one plain settled limited. shows-by oracle opening.commands (not opening.holds) texts options (most_lines options) seen last (limit_most options) handed which limit link id one plain settled limited
     go (Err n) = tt
 
 pub ClientsHoldDumps-last : (opening : Opening) → AllByRecursion IsUtf8 opening.commands → (contents : Option (List ℕ)) (seen : Seen) (last : Option Headless) → IfSome last (ClientsHoldDumps opening contents seen)

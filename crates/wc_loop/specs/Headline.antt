@@ -25,7 +25,7 @@ use Rattle.wc_board.specs.Connections.{unsent_on}
 use Rattle.wc_session.specs.declared.client.Client.{Client}
 use Rattle.wc_mirror_laws.specs.Held.{HeldPart}
 use Rattle.wc_mirror_laws.specs.Bytes.{ShowsPart}
-use Rattle.wc_mirror_laws.specs.Settled.{SettledBy}
+use Rattle.wc_mirror_laws.specs.Settled.{SettledBy, IsLimited}
 use Rattle.wc_turns.specs.Events.{whole, socket_on}
 use Rattle.wc_turns.specs.Heard.{Heard, happenings}
 use Rattle.wc_turns.specs.Served.{ReachesEvents}
@@ -99,14 +99,17 @@ Headline opening contents seen last =
 -- Where that is so, each client whose link is no WebSocket and that settled by the dump of a part,
 -- the lines of all buffers, the buffers in their groups or the nicklists, has exactly this part of
 -- what the core holds, by the bytes that were sent to it and those that are unsent. Of nicklists it
--- has the rows that the run last told, which the core knows by what was touched since then.
+-- has the rows that the run last told, which the core knows by what was touched since then. One that asked
+-- for the events of lines that went keeps no limit of lines of its own; one that never did keeps that of
+-- the world, and then the limit was never changed.
 abbrev pub ClientsHoldDumps : Opening → Option (List ℕ) → Seen → Headless → Type 0
 ClientsHoldDumps opening contents seen last =
     IfSome contents (λ configuration. IfOk (config_of configuration) (λ options.
     (oracle : Oracle) (handed : HandsOut (state_before oracle options opening) seen last) (which : HeldPart)
-    (link : ℕ) (id : List ℕ) → 1 ≤ link → socket_on link seen.taken ≡ false →
-    SettledBy which link id (state_before oracle options opening) handed.events
-    → ShowsPart which (most_lines options) id (seen.sent link ++ unsent_on link last.core.connections)
+    (limit : Option ℕ) (link : ℕ) (id : List ℕ) → 1 ≤ link → socket_on link seen.taken ≡ false →
+    SettledBy limit which link id (state_before oracle options opening) handed.events
+    → IsLimited limit last.core.world
+    → ShowsPart which limit id (seen.sent link ++ unsent_on link last.core.connections)
     (state_of last.core
     (beside (run (state_before oracle options opening) handed.events).state))))
 

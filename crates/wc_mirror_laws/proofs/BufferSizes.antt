@@ -10,6 +10,7 @@ use Rattle.wc_buffers.specs.Calls.{EntryGroups}
 use Rattle.wc_buffers.specs.Groups.{rows}
 use Rattle.wc_buffers.specs.Kept.{AreVars, IsBuffer}
 use Rattle.wc_model.specs.declared.notice.Notice.{Notice}
+use Rattle.wc_model.specs.declared.notice.Trim.{Trim}
 use Rattle.wc_model.specs.World.{World}
 use Rattle.wc_objects.specs.declared.kind.Kind.TheVariants as k
 use Rattle.wc_objects.specs.declared.object.Object.{Object}
@@ -19,11 +20,11 @@ use Rattle.wc_objects.specs.declared.object.HdaItem.{HdaItem, roll-HdaItem}
 use Rattle.wc_objects.specs.Spelling.{be32, text_bytes, pointer_bytes, simple_bytes, pair_bytes, value_bytes, item_bytes, message_bytes}
 use Rattle.wc_objects.proofs.Rooms.{length-be32}
 use Rattle.wc_events.specs.LineObjects.{truth}
-use Rattle.wc_events.specs.BufferObjects.{pair_of, table, count, about, opened_keys, opened_values, opened_objects, placed_keys, placed_values, placed_objects, renamed_keys, renamed_values, renamed_objects, title_keys, title_values, title_objects, vars_keys, vars_values, vars_objects, dump_keys, dumped_values, dumped_buffer, dumped_groups, buffer_dump}
+use Rattle.wc_events.specs.BufferObjects.{pair_of, table, count, about, opened_keys, opened_values, opened_objects, placed_keys, placed_values, placed_objects, renamed_keys, renamed_values, renamed_objects, title_keys, title_values, title_objects, vars_keys, vars_values, vars_objects, trim_keys, trim_values, trim_objects, dump_keys, dumped_values, dumped_buffer, dumped_groups, buffer_dump}
 use Rattle.wc_mirror_laws.specs.Worlds.{IsBufferKept, IsWorldKept}
 use Rattle.wc_mirror_laws.proofs.HandleLemmas.{rows_handles}
 use Rattle.wc_mirror_laws.proofs.ListLemmas.{all_append, all_front, all_back, all_map}
-use Rattle.wc_mirror_laws.proofs.NoticeLemmas.{IsTelling}
+use Rattle.wc_mirror_laws.proofs.NoticeLemmas.{IsTrimTold, IsTelling}
 use Rattle.wc_mirror_laws.proofs.SizeLemmas.{IsAtMost, AreAtMost, total, text_size, simple_size, pointer_short, number_short, text_short, pointers_size, values_size, spelt, message_size}
 use Rattle.wc_mirror_laws.proofs.VarLemmas.{AreShort}
 
@@ -117,6 +118,10 @@ vars_short : (n : Notice) (e : BufferEntry) → IsTelling n → IsBounded e → 
 unfolding vars_values
 vars_short n e tells is = (number_short (count n.number), (text_short 256 n.full_name tells.short, (table_short e.vars is.0.few is.0.vars is.1, tt)))
 
+trim_short : (trim : Trim) → IsTrimTold trim → AreAtMost (trim_values trim) (17 ∷ 4 ∷ [])
+unfolding trim_values
+trim_short trim told = (pointer_short trim.buffer.0 told.buffer, (number_short (count trim.count), tt))
+
 dumped_short : (number : ℕ) (e : BufferEntry) → IsBounded e → AreAtMost (dumped_values number e) dumped_sizes
 unfolding dumped_values
 dumped_short number e is = (
@@ -189,6 +194,9 @@ title_size id n e known tells fit short = about_size id title_keys n.buffer (tit
 
 pub vars_size : (id : List ℕ) (n : Notice) (e : BufferEntry) → length id ≤ 65536 → IsTelling n → IsBuffer e → AreShort e.vars → length (message_bytes id (vars_objects n e)) ≤ 2 ^ 31 - 1
 vars_size id n e known tells fit short = about_size id vars_keys n.buffer (vars_values n e) vars_sizes known (omega arith) tells.buffer (vars_short n e tells (fit, short)) (omega arith)
+
+pub trim_size : (id : List ℕ) (trim : Trim) → length id ≤ 65536 → IsTrimTold trim → length (message_bytes id (trim_objects trim)) ≤ 2 ^ 31 - 1
+trim_size id trim known told = about_size id trim_keys trim.buffer (trim_values trim) (17 ∷ 4 ∷ []) known (omega arith) told.buffer (trim_short trim told) (omega arith)
 
 -- ---- the dump
 

@@ -45,70 +45,70 @@ use Rattle.wc_mirror_laws.proofs.RunLemmas.{start_kept, mirrors}
 
 -- ---- the messages of acts
 
-follows_spelt : (limit link : ℕ) (state : State) (k : ℕ) (o : Outcome) → OutcomeUtf8 o → IsStateKept limit link state → AllSpelt (messages_to link (outcome_step state k o).acts)
-follows_spelt limit link state k outcome.Replied utf8 kept = tt
-follows_spelt limit link state k outcome.Silent utf8 kept = tt
-follows_spelt limit link state k (outcome.Input buffer text) utf8 kept = (Tells-runs Lines limit link [] state buffer (lines_of_text text) tt kept (parted_text text utf8)).spelt
-follows_spelt limit link state k (outcome.Leave why) utf8 kept = tt
-follows_spelt limit link state k outcome.NoMemory utf8 kept = tt
+follows_spelt : (link : ℕ) (state : State) (k : ℕ) (o : Outcome) → OutcomeUtf8 o → IsStateKept link state → AllSpelt (messages_to link (outcome_step state k o).acts)
+follows_spelt link state k outcome.Replied utf8 kept = tt
+follows_spelt link state k outcome.Silent utf8 kept = tt
+follows_spelt link state k (outcome.Input buffer text) utf8 kept = (Tells-runs Lines None link [] state buffer (lines_of_text text) tt kept (parted_text text utf8)).spelt
+follows_spelt link state k (outcome.Leave why) utf8 kept = tt
+follows_spelt link state k outcome.NoMemory utf8 kept = tt
 
-line_spelt : (limit link : ℕ) (state : State) (k : ℕ) (line : List ℕ) → IsStateKept limit link state → AllSpelt (messages_to link (step state (LineCame k line)).acts)
-line_spelt limit link state k line kept = came (at_key client_link k state.clients) where
+line_spelt : (link : ℕ) (state : State) (k : ℕ) (line : List ℕ) → IsStateKept link state → AllSpelt (messages_to link (step state (LineCame k line)).acts)
+line_spelt link state k line kept = came (at_key client_link k state.clients) where
   served : (client : Client) (o : Option Request) → request_of client.escaped line ≡ o → AllSpelt (messages_to link (request_step state client o).acts)
   served client None e = tt
   served client (Some request) e =
       let first = before_reply state client request in
       let now = first.state in
-      let tells = Tells-before Lines limit link [] state client request tt kept in
+      let tells = Tells-before Lines None link [] state client request tt kept in
       let answer = reply_of now.world now.options client request in
       let next : State = record now { clients = put_at client_link (client_link client) answer.client now.clients } in
       let utf8 = RequestIsUtf8-reads line client.escaped request (reads-request_of line client.escaped request e) in
       subst (λ (s : Stepped). AllSpelt (messages_to link s.acts)) (sym (asked_after state client request))
       (acts_spelt link first.acts (reply_step now client request).acts tells.spelt
       (acts_spelt link (sends (client_link client) answer.messages) (outcome_step next (client_link client) answer.outcome).acts
-      (sends_spelt link (client_link client) answer.messages (answer_spelt limit now.world now.options client request tells.kept.world utf8))
-      (follows_spelt limit link next (client_link client) answer.outcome (reply_text now client line request e) (kept-put limit link now (client_link client) answer.client (reply_link now client line request e) tells.kept))))
+      (sends_spelt link (client_link client) answer.messages (answer_spelt now.world.limit now.world now.options client request tells.kept.world utf8))
+      (follows_spelt link next (client_link client) answer.outcome (reply_text now client line request e) (kept-put link now (client_link client) answer.client (reply_link now client line request e) tells.kept))))
 
   came : (o : Option Client) → AllSpelt (messages_to link (link_line_step state k line o).acts)
-  came None = (Tells-line Lines limit link [] tt state k line (at_key server_link k state.servers) kept).spelt
+  came None = (Tells-line Lines None link [] tt state k line (at_key server_link k state.servers) kept).spelt
   came (Some client) = served client (request_of client.escaped line) refl
 
-lost_spelt : (limit link : ℕ) (state : State) (k : ℕ) (why : Cause) (o : Option Client) → IsStateKept limit link state → AllSpelt (messages_to link (link_loss_step state k why o).acts)
-lost_spelt limit link state k why None kept = (Tells-loss Lines limit link [] tt k why state (at_key server_link k state.servers) kept).spelt
-lost_spelt limit link state k why (Some client) kept = tt
+lost_spelt : (link : ℕ) (state : State) (k : ℕ) (why : Cause) (o : Option Client) → IsStateKept link state → AllSpelt (messages_to link (link_loss_step state k why o).acts)
+lost_spelt link state k why None kept = (Tells-loss Lines None link [] tt k why state (at_key server_link k state.servers) kept).spelt
+lost_spelt link state k why (Some client) kept = tt
 
-step_spelt : (limit link : ℕ) (state : State) (event : Event) → IsStateKept limit link state → AllSpelt (messages_to link (step state event).acts)
-step_spelt limit link state (Start moment) kept = (Tells-start Lines limit link [] state moment tt kept).spelt
-step_spelt limit link state (Tick moment) kept = (Tells-pushes Lines limit link [] (ticked state moment) tt (kept-ticked limit link state moment kept)).spelt
-step_spelt limit link state (Arrives k nonce) kept = by (nat_lt (length state.clients) (client_limit state.options)) where
+step_spelt : (link : ℕ) (state : State) (event : Event) → IsStateKept link state → AllSpelt (messages_to link (step state event).acts)
+step_spelt link state (Start moment) kept = (Tells-start Lines None link [] state moment tt kept).spelt
+step_spelt link state (Tick moment) kept = (Tells-pushes Lines None link [] (ticked state moment) tt (kept-ticked link state moment kept)).spelt
+step_spelt link state (Arrives k nonce) kept = by (nat_lt (length state.clients) (client_limit state.options)) where
   by : (b : Bool) → AllSpelt (messages_to link (arrived state k nonce b).acts)
   by true = tt
   by false = tt
-step_spelt limit link state (LineCame k line) kept = line_spelt limit link state k line kept
-step_spelt limit link state (Stands k) kept = (Tells-stands Lines limit link [] tt state k (at_key server_link k state.servers) kept).spelt
-step_spelt limit link state (Ends k) kept = lost_spelt limit link state k cause.Ended (at_key client_link k state.clients) kept
-step_spelt limit link state (Fails k) kept = lost_spelt limit link state k cause.Failed (at_key client_link k state.clients) kept
-step_spelt limit link state (Breaks k) kept = lost_spelt limit link state k cause.BadSocket (at_key client_link k state.clients) kept
-step_spelt limit link state ListenFails kept = tt
+step_spelt link state (LineCame k line) kept = line_spelt link state k line kept
+step_spelt link state (Stands k) kept = (Tells-stands Lines None link [] tt state k (at_key server_link k state.servers) kept).spelt
+step_spelt link state (Ends k) kept = lost_spelt link state k cause.Ended (at_key client_link k state.clients) kept
+step_spelt link state (Fails k) kept = lost_spelt link state k cause.Failed (at_key client_link k state.clients) kept
+step_spelt link state (Breaks k) kept = lost_spelt link state k cause.BadSocket (at_key client_link k state.clients) kept
+step_spelt link state ListenFails kept = tt
 
-spelt_on : (limit link : ℕ) (state : State) (events : List Event) → IsStateKept limit link state → AllSpelt (messages_to link (run state events).acts)
-spelt_on limit link state [] kept = tt
-spelt_on limit link state (event ∷ events) kept =
+spelt_on : (link : ℕ) (state : State) (events : List Event) → IsStateKept link state → AllSpelt (messages_to link (run state events).acts)
+spelt_on link state [] kept = tt
+spelt_on link state (event ∷ events) kept =
     let next = (step state event).state in
-    acts_spelt link (step state event).acts (run next events).acts (step_spelt limit link state event kept) (spelt_on limit link next events (step_keeps limit link state event kept))
+    acts_spelt link (step state event).acts (run next events).acts (step_spelt link state event kept) (spelt_on link next events (step_keeps link state event kept))
 
 -- ---- the bytes
 
 pub run_spells : RunSpells
-run_spells oracle options limit commands connects events link most texts =
-    let acts = (run (beginning oracle options limit commands connects) events).acts in
-    record { each = spelt_on limit link (beginning oracle options limit commands connects) events (start_kept limit link oracle options commands connects most texts); whole = sent_to-messages link acts }
+run_spells oracle options lines commands connects events link most texts =
+    let acts = (run (beginning oracle options lines commands connects) events).acts in
+    record { each = spelt_on link (beginning oracle options lines commands connects) events (start_kept lines link oracle options commands connects most texts); whole = sent_to-messages link acts }
 
 pub part_shows : (which : HeldPart) → PartShows which
-part_shows which oracle options limit commands connects events link id most texts short settled = record {
-  messages = messages_to link (run (beginning oracle options limit commands connects) events).acts;
-  spell = run_spells oracle options limit commands connects events link most texts;
-  has = mirrors which oracle options limit commands connects events link id most texts short settled;
+part_shows which limit oracle options lines commands connects events link id most texts short settled limited = record {
+  messages = messages_to link (run (beginning oracle options lines commands connects) events).acts;
+  spell = run_spells oracle options lines commands connects events link most texts;
+  has = mirrors which limit oracle options lines commands connects events link id most texts short settled limited;
 }
 
 pub bytes_show : BytesShow

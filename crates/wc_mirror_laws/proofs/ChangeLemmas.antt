@@ -1,44 +1,49 @@
 -- Changes reach the client that follows them, for each part that it may hold.
-use Rattle.std.proofs.Common.{◌≡◌, ℕ, Bool, true, false, cond, List, [], ◌∷◌, ◌++◌, Option, Some, None, refl, sym, ap, subst, ◌∙◌, eqb, IsUtf8}
-use Rattle.std.specs.List.{flat_map}
+use Rattle.std.proofs.Common.{◌≡◌, ℕ, ◌≤◌, Bool, true, false, cond, List, [], ◌∷◌, ◌++◌, Option, Some, None, refl, sym, ap, subst, ◌∙◌, arith, eqb, IsUtf8}
+use Rattle.std.specs.List.{AllByRecursion, flat_map}
 use Rattle.std.proofs.lemmas.Bool.{false≢true}
 use Rattle.std.proofs.lemmas.List.Elements.{All-nil}
+use Rattle.wc_text.specs.declared.names.Handle.{Handle}
+use Rattle.wc_lines.specs.Ring.{counted}
+use Rattle.wc_buffers.specs.Calls.{entry_of, lacks_var}
 use Rattle.wc_model.specs.declared.change.Change.{Change}
+use Rattle.wc_model.specs.declared.change.What.{What}
+use Rattle.wc_model.specs.declared.change.What.TheVariants.{SetVar, Limit}
 use Rattle.wc_model.specs.declared.notice.Notice.{Notice}
 use Rattle.wc_model.specs.declared.refused.ChangeRefused.{ChangeRefused}
 use Rattle.wc_model.specs.World.{World}
-use Rattle.wc_model.specs.Apply.{refusal, after}
-use Rattle.wc_model.specs.Notices.{notice}
+use Rattle.wc_model.specs.Apply.{refusal, after_of, after}
+use Rattle.wc_model.specs.Notices.{var_kind, kind_of, notice}
+use Rattle.wc_model.specs.Parts.{parts_of}
 use Rattle.wc_model.specs.Touches.{told_after}
 use Rattle.wc_objects.specs.declared.object.WireMessage.{WireMessage}
 use Rattle.wc_text.specs.Splits.{BeginsWithout}
 use Rattle.wc_session.specs.declared.client.Client.{Client}
-use Rattle.wc_session.specs.Event.{event_messages, notice_told}
-use Rattle.wc_session.specs.Sync.{follows}
+use Rattle.wc_session.specs.Event.{event_messages, part_told, parts_told, notice_told}
+use Rattle.wc_session.specs.Sync.{follows, after_event}
 use Rattle.wc_core.specs.Resolved.{refusal_text, told_refusal}
 use Rattle.wc_core.specs.State.{State, Act, Stepped}
 use Rattle.wc_core.specs.Step.{client_link, no_step, then_does, sends, told_to, tell_all_step, change_step, change_step_if, refusal_step, ask_step_if, ask_step}
 use Rattle.wc_core.specs.Served.{messages_to}
 use Rattle.wc_core.proofs.MessageLemmas.{messages_to-append}
 use Rattle.wc_view.specs.NickFold.{NickPart}
-use Rattle.wc_mirror_laws.specs.Held.{HeldPart, Lines, HeldOf, fold_one, Has}
-use Rattle.wc_mirror_laws.specs.Settled.{client_on, is_following}
+use Rattle.wc_mirror_laws.specs.Held.{HeldPart, Lines, HeldOf, Has}
+use Rattle.wc_view.specs.Views.{heard_parts}
+use Rattle.wc_mirror_laws.specs.Settled.{client_on, is_following, IsPlain, IsLimited}
 use Rattle.wc_mirror_laws.specs.Kept.{IsStateKept}
 use Rattle.wc_mirror_laws.specs.Mirrors.{fold_all, mirror_after, ChangeKeeps, ChangeMirrors}
-use Rattle.wc_mirror_laws.proofs.ClientLemmas.{following-heard, first-heard, sends_each, told-first, told_nothing, told_each, messages-sends}
+use Rattle.wc_mirror_laws.proofs.ClientLemmas.{following-heard, plain-heard, first-heard, sends_each, told-first, told_nothing, IsOwn, told_heard, messages-sends}
 use Rattle.wc_mirror_laws.proofs.IdLemmas.{id_free}
-use Rattle.wc_mirror_laws.proofs.HeldLemmas.{change_right}
-use Rattle.wc_mirror_laws.proofs.NoticeLemmas.{telling}
+use Rattle.wc_mirror_laws.proofs.HeldLemmas.{fold_all-append, parts_messages, change_right}
+use Rattle.wc_mirror_laws.proofs.ListLemmas.{all_more}
+use Rattle.wc_mirror_laws.proofs.NoticeLemmas.{IsTelling, telling, parts_telling}
 use Rattle.wc_mirror_laws.proofs.PrintLemmas.{level_fits}
 use Rattle.wc_mirror_laws.proofs.TellingLemmas.{AllSpelt, event_spelt}
 use Rattle.wc_mirror_laws.specs.Changes.{IsTold}
-use Rattle.wc_mirror_laws.proofs.WorldLemmas.{after_kept, told_kept}
+use Rattle.wc_mirror_laws.specs.Worlds.{IsWorldKept}
+use Rattle.wc_mirror_laws.proofs.WorldLemmas.{limit_after, after_kept, limit_most, told_kept}
 
-pub fold_all-append : (which : HeldPart) (limit : ℕ) (id : List ℕ) (part : HeldOf which) (a b : List WireMessage) → fold_all which limit id part (a ++ b) ≡ fold_all which limit id (fold_all which limit id part a) b
-fold_all-append which limit id part [] b = refl
-fold_all-append which limit id part (m ∷ a) b = fold_all-append which limit id (fold_one which limit id part m) a b
-
-pub mirror-append : (which : HeldPart) (limit link : ℕ) (id : List ℕ) (part : HeldOf which) (a b : List Act) → mirror_after which limit link id part (a ++ b) ≡ mirror_after which limit link id (mirror_after which limit link id part a) b
+pub mirror-append : (which : HeldPart) (limit : Option ℕ) (link : ℕ) (id : List ℕ) (part : HeldOf which) (a b : List Act) → mirror_after which limit link id part (a ++ b) ≡ mirror_after which limit link id (mirror_after which limit link id part a) b
 mirror-append which limit link id part a b =
     ap (fold_all which limit id part) (messages_to-append link a b) ∙ fold_all-append which limit id part (messages_to link a) (messages_to link b)
 
@@ -57,12 +62,15 @@ sends_spelt link k messages all = subst AllSpelt (sym (messages-sends link k mes
   by true = all
   by false = tt
 
-told_spelt : (world : World) (n : Notice) (client : Client) → AllSpelt (event_messages world n) → AllSpelt (notice_told world n client)
-unfolding notice_told
-told_spelt world n client all = by (follows n.kind n.buffer.0 client) where
-  by : (b : Bool) → AllSpelt (cond b (event_messages world n) [])
-  by true = all
-  by false = tt
+told_spelt : (world : World) (parts : List Notice) (client : Client) → AllByRecursion (λ part. AllSpelt (event_messages world part)) parts → AllSpelt (parts_told world parts client)
+unfolding part_told
+told_spelt world [] client all = tt
+told_spelt world (part ∷ parts) client all =
+    both_spelt (part_told world part client) (parts_told world parts (after_event part.kind part.buffer.0 client)) (by (follows part.kind part.buffer.0 client)) (told_spelt world parts (after_event part.kind part.buffer.0 client) all.1)
+  where
+    by : (b : Bool) → AllSpelt (cond b (event_messages world part) [])
+    by true = all.0
+    by false = tt
 
 pub clients_spelt : (link : ℕ) (told : Client → List WireMessage) (clients : List Client) → ((client : Client) → AllSpelt (told client)) → AllSpelt (messages_to link (sends_each told clients))
 clients_spelt link told [] all = tt
@@ -72,70 +80,107 @@ clients_spelt link told (client ∷ clients) all =
 -- ---- what is done
 
 -- What is done to the state: what always holds does so still, each message keeps the rules, and a client that follows has
--- its part after it.
-pub record Tells (which : HeldPart) (limit link : ℕ) (id : List ℕ) (state : State) (stepped : Stepped) : Type 0 where
-  pub following : is_following (client_on link stepped.state) ≡ is_following (client_on link state)
-  pub kept : IsStateKept limit link stepped.state
+-- its part after it. A client that did not ask for lines that went did not do so afterwards, and a limit that was never
+-- changed afterwards was not changed before.
+pub record Tells (which : HeldPart) (limit : Option ℕ) (link : ℕ) (id : List ℕ) (state : State) (stepped : Stepped) : Type 0 where
+  pub following : is_following limit (client_on link stepped.state) ≡ is_following limit (client_on link state)
+  pub kept : IsStateKept link stepped.state
+  pub plain : IsPlain limit (client_on link state) → IsPlain limit (client_on link stepped.state)
+  pub back : IsLimited limit stepped.state.world → IsLimited limit state.world
   pub spelt : AllSpelt (messages_to link stepped.acts)
-  pub right : is_following (client_on link state) ≡ true → (part : HeldOf which) → Has which part state → Has which (mirror_after which limit link id part stepped.acts) stepped.state
+  pub right : is_following limit (client_on link state) ≡ true → IsPlain limit (client_on link state) → IsLimited limit stepped.state.world → (part : HeldOf which) → Has which part state
+      → Has which (mirror_after which limit link id part stepped.acts) stepped.state
 
-pub Tells-stays : (which : HeldPart) (limit link : ℕ) (id : List ℕ) (state : State) → IsStateKept limit link state → Tells which limit link id state (no_step state)
-Tells-stays which limit link id state kept = record { following = refl; kept = kept; spelt = tt; right = λ follows part had. had }
+pub Tells-stays : (which : HeldPart) (limit : Option ℕ) (link : ℕ) (id : List ℕ) (state : State) → IsStateKept link state → Tells which limit link id state (no_step state)
+Tells-stays which limit link id state kept = record { following = refl; kept = kept; plain = λ plain. plain; back = λ limited. limited; spelt = tt; right = λ follows plain limited part had. had }
 
-pub Tells-then : (which : HeldPart) (limit link : ℕ) (id : List ℕ) (state : State) (first : Stepped) (others : State → Stepped) → Tells which limit link id state first → Tells which limit link id first.state (others first.state)
+pub Tells-then : (which : HeldPart) (limit : Option ℕ) (link : ℕ) (id : List ℕ) (state : State) (first : Stepped) (others : State → Stepped) → Tells which limit link id state first → Tells which limit link id first.state (others first.state)
     → Tells which limit link id state (then_does first others)
 Tells-then which limit link id state first others a b = record {
   following = b.following ∙ a.following;
   kept = b.kept;
+  plain = λ plain. b.plain (a.plain plain);
+  back = λ limited. a.back (b.back limited);
   spelt = acts_spelt link first.acts (others first.state).acts a.spelt b.spelt;
-  right = λ follows part had.
+  right = λ follows plain limited part had.
       let last = (others first.state).state in
       subst (λ part. Has which part last) (sym (mirror-append which limit link id part first.acts (others first.state).acts))
-      (b.right (a.following ∙ follows) (mirror_after which limit link id part first.acts) (a.right follows part had));
+      (b.right (a.following ∙ follows) (a.plain plain) limited (mirror_after which limit link id part first.acts) (a.right follows plain (b.back limited) part had));
 }
 
 -- ---- a change
 
--- the messages that the client of a link is sent, where it follows all events
-told_event : (limit link : ℕ) (state : State) (told : NickPart) (world : World) (n : Notice) → IsStateKept limit link state → is_following (client_on link state) ≡ true
-    → messages_to link (tell_all_step state told world n).acts ≡ event_messages world n
-told_event limit link state told world n kept follows = by (client_on link state) refl follows where
-  by : (o : Option Client) → client_on link state ≡ o → is_following o ≡ true → messages_to link (flat_map (told_to world n) state.clients) ≡ event_messages world n
-  by None at e = absurd (false≢true e)
-  by (Some client) at e = told-first link (notice_told world n) (told_nothing world n) state.clients client kept.first at ∙ told_each world n client e
+-- a limit that was changed stays one that was
+never_none : (n : ℕ) → counted n ≡ 0 → ⊥
+never_none n e = omega (arith, e)
 
-pub Tells-changes : (which : HeldPart) (limit link : ℕ) (id : List ℕ) (state : State) (change : Change) → BeginsWithout 95 id → IsStateKept limit link state → IsTold change.what
+after_back : (limit : Option ℕ) (w : World) (h : Handle) (a : What) → IsLimited limit (after_of w h a) → IsLimited limit w
+unfolding after_of
+after_back None w h a is = tt
+after_back (Some limit) w h (Limit other) is = absurd (never_none w.limit_changes is.1)
+after_back (Some limit) w h _ is = is
+
+own_var : (b : Bool) → IsOwn (var_kind b)
+own_var true = tt
+own_var false = tt
+
+-- no change is told as lines that went alone
+own_kind : (w : World) (h : Handle) (a : What) → IsOwn (kind_of w h a)
+own_kind w h (SetVar var) = own_var (lacks_var var.name (entry_of h w.groups))
+own_kind w h _ = tt
+
+-- the messages that the client of a link is sent, where it follows all events
+told_event : (limit : Option ℕ) (link : ℕ) (state : State) (told : NickPart) (world : World) (n : Notice) → IsStateKept link state → IsOwn n.kind → is_following limit (client_on link state) ≡ true → IsPlain limit (client_on link state)
+    → messages_to link (tell_all_step state told world n).acts ≡ parts_messages world (heard_parts limit world n)
+told_event limit link state told world n kept own follows plain = by (client_on link state) refl follows plain where
+  by : (o : Option Client) → client_on link state ≡ o → is_following limit o ≡ true → IsPlain limit o → messages_to link (flat_map (told_to world n) state.clients) ≡ parts_messages world (heard_parts limit world n)
+  by None at e plain = absurd (false≢true e)
+  by (Some client) at e plain = told-first link (notice_told world n) (told_nothing world n) state.clients client kept.first at ∙ told_heard limit world n client own e plain
+
+pub Tells-changes : (which : HeldPart) (limit : Option ℕ) (link : ℕ) (id : List ℕ) (state : State) (change : Change) → BeginsWithout 95 id → IsStateKept link state → IsTold change.what
     → refusal state.world change ≡ None → Tells which limit link id state (change_step state change)
 Tells-changes which limit link id state change free kept told good =
     let w = state.world in
     let v = after w change in
     let n = notice w change in
-    let is = after_kept limit w change.buffer change.what kept.world told good in
-    let refusal_step = telling limit w change.buffer change.what kept.world told good in
+    let is = after_kept w.limit w change.buffer change.what kept.world told good in
+    let tells = telling w.limit w change.buffer change.what kept.most kept.world told good in
+    let most = limit_most w.limit change.what told kept.most in
+    let back = after_back limit w change.buffer change.what in
     record {
-      following = following-heard n.kind n.buffer.0 link state.clients;
-      kept = record { most = kept.most; texts = kept.texts; world = is; told = told_kept limit w change.buffer change.what state.told kept.world told good kept.told; first = first-heard n.kind n.buffer.0 link state.clients kept.first };
-      spelt = clients_spelt link (notice_told v n) state.clients (λ client. told_spelt v n client (event_spelt limit v n is refusal_step));
-      right = λ follows part had.
+      following = following-heard limit n.kind n.buffer.0 link state.clients;
+      kept = record {
+        most = subst (λ n. n ≤ 4096) (sym is.same) most;
+        texts = kept.texts;
+        world = subst (λ n. IsWorldKept n v) (sym is.same) is;
+        told = told_kept w.limit w change.buffer change.what state.told kept.world told good kept.told;
+        first = first-heard n.kind n.buffer.0 link state.clients kept.first;
+      };
+      plain = plain-heard limit n.kind n.buffer.0 link state.clients;
+      back = back;
+      spelt = clients_spelt link (notice_told v n) state.clients
+          (λ client. told_spelt v (parts_of v n) client (all_more IsTelling (λ part. AllSpelt (event_messages v part)) (parts_of v n) (λ part tells. event_spelt (limit_after w.limit change.what) v part is tells) (parts_telling v n tells)));
+      right = λ follows plain limited part had.
           let new = (change_step state change).state in
-          subst (λ part. Has which part new) (sym (ap (fold_all which limit id part) (told_event limit link state (told_after w change.buffer change.what state.told) v n kept follows)))
-          (change_right which limit id part state change kept.world kept.told told (id_free id free) good had);
+          let event = told_event limit link state (told_after w change.buffer change.what state.told) v n kept (own_kind w change.buffer change.what) follows plain in
+          subst (λ part. Has which part new) (sym (ap (fold_all which limit id part) event))
+          (change_right which limit id part state change kept.most kept.world kept.told told (id_free id free) good (back limited) limited had);
     }
 
 pub change_keeps : ChangeKeeps
-change_keeps limit link state change kept told good = (Tells-changes Lines limit link [] state change tt kept told good).kept
+change_keeps link state change kept told good = (Tells-changes Lines None link [] state change tt kept told good).kept
 
 pub change_mirrors : (which : HeldPart) → ChangeMirrors which
-change_mirrors which limit link id state change part kept free told good follows had = (Tells-changes which limit link id state change free kept told good).right follows part had
+change_mirrors which limit link id state change part kept free told good plain follows limited had = (Tells-changes which limit link id state change free kept told good).right follows plain limited part had
 
 -- a refusal that is told
-pub Tells-tells : (which : HeldPart) (limit link : ℕ) (id : List ℕ) (state : State) (text : List ℕ) → BeginsWithout 95 id → IsStateKept limit link state → Tells which limit link id state (refusal_step state text)
+pub Tells-tells : (which : HeldPart) (limit : Option ℕ) (link : ℕ) (id : List ℕ) (state : State) (text : List ℕ) → BeginsWithout 95 id → IsStateKept link state → Tells which limit link id state (refusal_step state text)
 Tells-tells which limit link id state text free kept = by (refusal state.world (told_refusal state.moment text)) refl where
   by : (o : Option ChangeRefused) → refusal state.world (told_refusal state.moment text) ≡ o → Tells which limit link id state (change_step_if state (told_refusal state.moment text) o)
   by None good = Tells-changes which limit link id state (told_refusal state.moment text) free kept (All-nil IsUtf8, level_fits [] false) good
   by (Some reason) good = Tells-stays which limit link id state kept
 
-pub Tells-asks : (which : HeldPart) (limit link : ℕ) (id : List ℕ) (state : State) (change : Change) → BeginsWithout 95 id → IsStateKept limit link state → IsTold change.what → Tells which limit link id state (ask_step state change)
+pub Tells-asks : (which : HeldPart) (limit : Option ℕ) (link : ℕ) (id : List ℕ) (state : State) (change : Change) → BeginsWithout 95 id → IsStateKept link state → IsTold change.what → Tells which limit link id state (ask_step state change)
 Tells-asks which limit link id state change free kept told = by (refusal state.world change) refl where
   by : (o : Option ChangeRefused) → refusal state.world change ≡ o → Tells which limit link id state (ask_step_if state change o)
   by None good = Tells-changes which limit link id state change free kept told good

@@ -1,13 +1,15 @@
 -- The clients of a link, of which the first alone is told events.
-use Rattle.std.proofs.Common.{◌≡◌, ℕ, Bool, true, false, cond, ◌&&◌, ◌||◌, List, [], ◌∷◌, ◌++◌, map, Some, None, option_map, refl, sym, ap, ◌∙◌, arith, eqb, append-nil, not}
+use Rattle.std.proofs.Common.{◌≡◌, ℕ, Bool, true, false, cond, ◌&&◌, ◌||◌, List, [], ◌∷◌, ◌++◌, map, Option, Some, None, is_some, option_map, refl, sym, ap, ◌∙◌, arith, eqb, append-nil, not}
 use Rattle.std.specs.List.{flat_map}
-use Rattle.std.proofs.lemmas.Bool.{false≢true}
+use Rattle.std.proofs.lemmas.Bool.{false≢true, or_parts}
 use Rattle.std.proofs.lemmas.Bool.Decides.{nat_tests}
 use Rattle.wc_text.specs.declared.names.Handle.{Handle}
 use Rattle.wc_outside.specs.Keyed.{at_key, put_at, without}
 use Rattle.wc_model.specs.declared.notice.EventKind.{EventKind}
 use Rattle.wc_model.specs.declared.notice.EventKind.TheVariants as kind
 use Rattle.wc_model.specs.declared.notice.Notice.{Notice}
+use Rattle.wc_model.specs.declared.notice.Trim.{Trim}
+use Rattle.wc_model.specs.Parts.{trim_part, parts_of}
 use Rattle.wc_model.specs.World.{World}
 use Rattle.wc_nickdiff.specs.declared.diff_item.Push.{Push}
 use Rattle.wc_nickdiff.specs.declared.diff_item.Push.TheVariants.{Nothing, Diff, Full}
@@ -17,54 +19,65 @@ use Rattle.wc_events.specs.NickObjects.{push_kind}
 use Rattle.wc_session.specs.declared.client.Client.{Client}
 use Rattle.wc_session.specs.declared.sync_set.BufferSet.{BufferSet}
 use Rattle.wc_session.specs.declared.sync_set.SyncSet.{SyncSet}
-use Rattle.wc_session.specs.Event.{notice_told, event_messages, if_fits, push_told, push_messages}
-use Rattle.wc_session.specs.Sync.{no_options, union, set_at, wants, follows, sets_after, after_event}
+use Rattle.wc_session.specs.Event.{part_told, parts_told, notice_told, event_messages, if_fits, push_told, push_messages}
+use Rattle.wc_session.specs.Sync.{no_options, union, set_at, wants, follows, without_set, sets_after, after_event}
 use Rattle.wc_core.specs.State.{Act}
 use Rattle.wc_core.specs.Step.{client_link, sends}
 use Rattle.wc_core.specs.Served.{messages_to}
 use Rattle.wc_core.proofs.MessageLemmas.{messages_to-append}
-use Rattle.wc_mirror_laws.specs.Settled.{follows_all, is_following}
+use Rattle.wc_view.specs.Views.{heard_parts}
+use Rattle.wc_mirror_laws.specs.Settled.{follows_all, is_following, sets_have_trims, HasNoTrims, IsPlain}
 use Rattle.wc_mirror_laws.specs.Kept.{asks_some, has_sets, asks_events, is_quiet, is_first_alone}
 
 -- ---- whether a client follows all events
 
 -- one more client that does not
-pub following-push : (link : ℕ) (client : Client) (clients : List Client) → follows_all client ≡ false
-    → is_following (at_key client_link link (clients ++ client ∷ [])) ≡ is_following (at_key client_link link clients)
-following-push link client [] e = by (eqb (client_link client) link) where
-  by : (b : Bool) → is_following (cond b (Some client) None) ≡ false
+pub following-push : (limit : Option ℕ) (link : ℕ) (client : Client) (clients : List Client) → follows_all limit client ≡ false
+    → is_following limit (at_key client_link link (clients ++ client ∷ [])) ≡ is_following limit (at_key client_link link clients)
+following-push limit link client [] e = by (eqb (client_link client) link) where
+  by : (b : Bool) → is_following limit (cond b (Some client) None) ≡ false
   by true = e
   by false = refl
-following-push link client (other ∷ clients) e = by (eqb (client_link other) link) (following-push link client clients e) where
-  by : (b : Bool) → is_following (at_key client_link link (clients ++ client ∷ [])) ≡ is_following (at_key client_link link clients)
-      → is_following (cond b (Some other) (at_key client_link link (clients ++ client ∷ []))) ≡ is_following (cond b (Some other) (at_key client_link link clients))
+following-push limit link client (other ∷ clients) e = by (eqb (client_link other) link) (following-push limit link client clients e) where
+  by : (b : Bool) → is_following limit (at_key client_link link (clients ++ client ∷ [])) ≡ is_following limit (at_key client_link link clients)
+      → is_following limit (cond b (Some other) (at_key client_link link (clients ++ client ∷ []))) ≡ is_following limit (cond b (Some other) (at_key client_link link clients))
   by true more = refl
   by false more = more
 
--- an event that some set asks for
-abbrev IsAskable : EventKind → Type 0
-IsAskable kind.NickTouched = ⊥
-IsAskable _ = Unit {0}
+-- whoever keeps no limit of its own hears of lines that went
+abbrev IsUnlimited : Option ℕ → Type 0
+IsUnlimited None = Unit {0}
+IsUnlimited (Some limit) = ⊥
+
+-- an event that a mirror asks for
+abbrev IsAskable : Option ℕ → EventKind → Type 0
+IsAskable limit kind.NickTouched = ⊥
+IsAskable limit kind.LimitSet = ⊥
+IsAskable limit kind.LinesTrimmed = IsUnlimited limit
+IsAskable limit _ = Unit {0}
 
 -- it is wanted by any set of all options
-wants_all : (k : EventKind) (set : SyncSet) → IsAskable k → set.buffers ≡ true → set.buffer ≡ true → set.nicklist ≡ true → wants k set ≡ true
-wants_all kind.Opened set is a b n = a
-wants_all kind.TitleChanged set is a b n = b
-wants_all kind.VarAdded set is a b n = b
-wants_all kind.VarChanged set is a b n = b
-wants_all kind.VarRemoved set is a b n = b
-wants_all kind.Cleared set is a b n = b
-wants_all kind.LineAdded set is a b n = b
-wants_all kind.LineDataChanged set is a b n = b
-wants_all kind.Nicklist set is a b n = n
-wants_all kind.NicklistDiff set is a b n = n
-wants_all kind.NickTouched set is a b n = absurd is
-wants_all _ set is a b n = ap (λ t. t || set.buffer) a
+wants_all : (limit : Option ℕ) (k : EventKind) (set : SyncSet) → IsAskable limit k → set.buffers ≡ true → set.buffer ≡ true → set.nicklist ≡ true → (IsUnlimited limit → set.trims ≡ true) → wants k set ≡ true
+wants_all limit kind.Opened set is a b n t = a
+wants_all limit kind.TitleChanged set is a b n t = b
+wants_all limit kind.VarAdded set is a b n t = b
+wants_all limit kind.VarChanged set is a b n t = b
+wants_all limit kind.VarRemoved set is a b n t = b
+wants_all limit kind.Cleared set is a b n t = b
+wants_all limit kind.LineAdded set is a b n t = b
+wants_all limit kind.LineDataChanged set is a b n t = b
+wants_all limit kind.Nicklist set is a b n t = n
+wants_all limit kind.NicklistDiff set is a b n t = n
+wants_all limit kind.NickTouched set is a b n t = absurd is
+wants_all limit kind.LimitSet set is a b n t = absurd is
+wants_all limit kind.LinesTrimmed set is a b n t = t is
+wants_all limit _ set is a b n t = ap (λ x. x || set.buffer) a
 
 -- a client that does is told each such event
-pub follows_each : (k : EventKind) (buffer : ℕ) (client : Client) → IsAskable k → follows_all client ≡ true → follows k buffer client ≡ true
-follows_each k buffer client is e =
-    wants_all k (union client.everywhere set) is (one client.everywhere.buffers set.buffers all.0) (one client.everywhere.buffer set.buffer all.1) (one client.everywhere.nicklist set.nicklist all.2)
+pub follows_each : (limit : Option ℕ) (k : EventKind) (buffer : ℕ) (client : Client) → IsAskable limit k → follows_all limit client ≡ true → follows k buffer client ≡ true
+follows_each limit k buffer client is e =
+    wants_all limit k (union client.everywhere set) is (one client.everywhere.buffers set.buffers all.0) (one client.everywhere.buffer set.buffer all.1) (one client.everywhere.nicklist set.nicklist all.2)
+    (λ un. one client.everywhere.trims set.trims (trims_in limit un all.3))
   where
     set : SyncSet
     set = set_at buffer client.sets
@@ -72,52 +85,62 @@ follows_each k buffer client is e =
     one : (a b : Bool) → a ≡ true → a || b ≡ true
     one a b e = ap (λ t. t || b) e
 
-    parts : (a b c : Bool) → a && (b && c) ≡ true → (a ≡ true) × (b ≡ true) × (c ≡ true)
-    parts true true c e = (refl, refl, e)
-    parts true false c e = absurd (false≢true e)
-    parts false b c e = absurd (false≢true e)
+    parts : (a b c d : Bool) → a && (b && (c && d)) ≡ true → (a ≡ true) × (b ≡ true) × (c ≡ true) × (d ≡ true)
+    parts true true true d e = (refl, refl, refl, e)
+    parts true true false d e = absurd (false≢true e)
+    parts true false c d e = absurd (false≢true e)
+    parts false b c d e = absurd (false≢true e)
 
-    all : (client.everywhere.buffers ≡ true) × (client.everywhere.buffer ≡ true) × (client.everywhere.nicklist ≡ true)
-    all = parts client.everywhere.buffers client.everywhere.buffer client.everywhere.nicklist e
+    all : (client.everywhere.buffers ≡ true) × (client.everywhere.buffer ≡ true) × (client.everywhere.nicklist ≡ true) × (is_some limit || client.everywhere.trims ≡ true)
+    all = parts client.everywhere.buffers client.everywhere.buffer client.everywhere.nicklist (is_some limit || client.everywhere.trims) e
+
+    trims_in : (limit : Option ℕ) → IsUnlimited limit → is_some limit || client.everywhere.trims ≡ true → client.everywhere.trims ≡ true
+    trims_in None un e = e
+    trims_in (Some limit) un e = absurd un
 
 -- ---- a client that asked for nothing
 
-wants_none : (k : EventKind) (set : SyncSet) → set.buffers ≡ false → set.buffer ≡ false → set.nicklist ≡ false → wants k set ≡ false
-wants_none kind.Opened set a b n = a
-wants_none kind.TitleChanged set a b n = b
-wants_none kind.VarAdded set a b n = b
-wants_none kind.VarChanged set a b n = b
-wants_none kind.VarRemoved set a b n = b
-wants_none kind.Cleared set a b n = b
-wants_none kind.LineAdded set a b n = b
-wants_none kind.LineDataChanged set a b n = b
-wants_none kind.Nicklist set a b n = n
-wants_none kind.NicklistDiff set a b n = n
-wants_none kind.NickTouched set a b n = refl
-wants_none _ set a b n = ap (λ t. t || set.buffer) a ∙ b
+wants_none : (k : EventKind) (set : SyncSet) → set.buffers ≡ false → set.buffer ≡ false → set.nicklist ≡ false → set.trims ≡ false → wants k set ≡ false
+wants_none kind.Opened set a b n t = a
+wants_none kind.TitleChanged set a b n t = b
+wants_none kind.VarAdded set a b n t = b
+wants_none kind.VarChanged set a b n t = b
+wants_none kind.VarRemoved set a b n t = b
+wants_none kind.Cleared set a b n t = b
+wants_none kind.LineAdded set a b n t = b
+wants_none kind.LineDataChanged set a b n t = b
+wants_none kind.Nicklist set a b n t = n
+wants_none kind.NicklistDiff set a b n t = n
+wants_none kind.NickTouched set a b n t = refl
+wants_none kind.LimitSet set a b n t = refl
+wants_none kind.LinesTrimmed set a b n t = t
+wants_none _ set a b n t = ap (λ x. x || set.buffer) a ∙ b
 
 -- none of its sets has an option
 record AsksNothing (client : Client) : Type 0 where
   buffers : client.everywhere.buffers ≡ false
   buffer : client.everywhere.buffer ≡ false
   nicklist : client.everywhere.nicklist ≡ false
+  trims : client.everywhere.trims ≡ false
   sets : client.sets ≡ []
 
 asks_nothing : (client : Client) → asks_events client ≡ false → AsksNothing client
-asks_nothing client e = by client.everywhere.buffers client.everywhere.upgrade client.everywhere.buffer client.everywhere.nicklist client.sets refl refl refl refl e where
-  by : (a u b n : Bool) (sets : List BufferSet) → client.everywhere.buffers ≡ a → client.everywhere.buffer ≡ b → client.everywhere.nicklist ≡ n → client.sets ≡ sets → (a || (u || (b || n))) || has_sets sets ≡ false → AsksNothing client
-  by true u b n sets p q r s e = absurd (false≢true (sym e))
-  by false true b n sets p q r s e = absurd (false≢true (sym e))
-  by false false true n sets p q r s e = absurd (false≢true (sym e))
-  by false false false true sets p q r s e = absurd (false≢true (sym e))
-  by false false false false (set ∷ sets) p q r s e = absurd (false≢true (sym e))
-  by false false false false [] p q r s e = record { buffers = p; buffer = q; nicklist = r; sets = s }
+asks_nothing client e = by client.everywhere.buffers client.everywhere.upgrade client.everywhere.buffer client.everywhere.nicklist client.everywhere.trims client.sets refl refl refl refl refl e where
+  by : (a u b n t : Bool) (sets : List BufferSet) → client.everywhere.buffers ≡ a → client.everywhere.buffer ≡ b → client.everywhere.nicklist ≡ n → client.everywhere.trims ≡ t → client.sets ≡ sets
+      → (a || (u || (b || (n || t)))) || has_sets sets ≡ false → AsksNothing client
+  by true u b n t sets p q r l s e = absurd (false≢true (sym e))
+  by false true b n t sets p q r l s e = absurd (false≢true (sym e))
+  by false false true n t sets p q r l s e = absurd (false≢true (sym e))
+  by false false false true t sets p q r l s e = absurd (false≢true (sym e))
+  by false false false false true sets p q r l s e = absurd (false≢true (sym e))
+  by false false false false false (set ∷ sets) p q r l s e = absurd (false≢true (sym e))
+  by false false false false false [] p q r l s e = record { buffers = p; buffer = q; nicklist = r; trims = l; sets = s }
 
 follows_none : (k : EventKind) (buffer : ℕ) (client : Client) → asks_events client ≡ false → follows k buffer client ≡ false
 follows_none k buffer client e =
     let is = asks_nothing client e in
     ap (λ sets. wants k (union client.everywhere (set_at buffer sets))) is.sets
-    ∙ wants_none k (union client.everywhere no_options) (ap (λ t. t || false) is.buffers) (ap (λ t. t || false) is.buffer) (ap (λ t. t || false) is.nicklist)
+    ∙ wants_none k (union client.everywhere no_options) (ap (λ t. t || false) is.buffers) (ap (λ t. t || false) is.buffer) (ap (λ t. t || false) is.nicklist) (ap (λ t. t || false) is.trims)
 
 no_sets : (k : EventKind) (buffer : ℕ) → sets_after k buffer [] ≡ []
 no_sets kind.Closing buffer = refl
@@ -225,11 +248,11 @@ messages-sends link k (m ∷ messages) = by (eqb k link) (messages-sends link k 
 
 -- ---- what clients hear
 
-pub following-heard : (k : EventKind) (buffer link : ℕ) (clients : List Client) → is_following (at_key client_link link (map (after_event k buffer) clients)) ≡ is_following (at_key client_link link clients)
-following-heard k buffer link [] = refl
-following-heard k buffer link (client ∷ clients) = by (eqb (client_link client) link) (following-heard k buffer link clients) where
-  by : (b : Bool) → is_following (at_key client_link link (map (after_event k buffer) clients)) ≡ is_following (at_key client_link link clients)
-      → is_following (cond b (Some (after_event k buffer client)) (at_key client_link link (map (after_event k buffer) clients))) ≡ is_following (cond b (Some client) (at_key client_link link clients))
+pub following-heard : (limit : Option ℕ) (k : EventKind) (buffer link : ℕ) (clients : List Client) → is_following limit (at_key client_link link (map (after_event k buffer) clients)) ≡ is_following limit (at_key client_link link clients)
+following-heard limit k buffer link [] = refl
+following-heard limit k buffer link (client ∷ clients) = by (eqb (client_link client) link) (following-heard limit k buffer link clients) where
+  by : (b : Bool) → is_following limit (at_key client_link link (map (after_event k buffer) clients)) ≡ is_following limit (at_key client_link link clients)
+      → is_following limit (cond b (Some (after_event k buffer client)) (at_key client_link link (map (after_event k buffer) clients))) ≡ is_following limit (cond b (Some client) (at_key client_link link clients))
   by true more = refl
   by false more = more
 
@@ -285,27 +308,123 @@ module _ (link : ℕ) (told : Client → List WireMessage) (nothing : (client : 
         ap (λ t. told first ++ t) (told-quiet clients e) ∙ append-nil (told first) ∙ ap (λ c. told c) same
     by false more e at = more e at
 
+-- ---- a client that did not ask for lines that went
+
+unset_plain : (buffer : ℕ) (sets : List BufferSet) → sets_have_trims sets ≡ false → (set_at buffer sets).trims ≡ false
+unset_plain buffer [] e = refl
+unset_plain buffer (s ∷ sets) e =
+    let both = or_parts s.set.trims (sets_have_trims sets) e in
+    by (eqb s.buffer.0 buffer) both.0 (unset_plain buffer sets both.1)
+  where
+    by : (b : Bool) → s.set.trims ≡ false → (set_at buffer sets).trims ≡ false → (cond b s.set (set_at buffer sets)).trims ≡ false
+    by true here more = here
+    by false here more = more
+
+trims_unfollowed : (buffer : ℕ) (client : Client) → HasNoTrims (Some client) → follows kind.LinesTrimmed buffer client ≡ false
+trims_unfollowed buffer client plain = ap (λ t. t || (set_at buffer client.sets).trims) plain.0 ∙ unset_plain buffer client.sets plain.1
+
+-- a closed buffer takes its set along
+fewer_plain : (buffer : ℕ) (sets : List BufferSet) → sets_have_trims sets ≡ false → sets_have_trims (without_set buffer sets) ≡ false
+fewer_plain buffer [] e = refl
+fewer_plain buffer (s ∷ sets) e =
+    let both = or_parts s.set.trims (sets_have_trims sets) e in
+    by (not (eqb s.buffer.0 buffer)) both.0 (fewer_plain buffer sets both.1)
+  where
+    by : (b : Bool) → s.set.trims ≡ false → sets_have_trims (without_set buffer sets) ≡ false → sets_have_trims (cond b (s ∷ without_set buffer sets) (without_set buffer sets)) ≡ false
+    by true here more = ap (λ t. t || sets_have_trims (without_set buffer sets)) here ∙ more
+    by false here more = more
+
+sets_plain : (k : EventKind) (buffer : ℕ) (sets : List BufferSet) → sets_have_trims sets ≡ false → sets_have_trims (sets_after k buffer sets) ≡ false
+sets_plain kind.Closing buffer sets e = fewer_plain buffer sets e
+sets_plain _ buffer sets e = e
+
+after_plain : (k : EventKind) (buffer : ℕ) (client : Client) → HasNoTrims (Some client) → HasNoTrims (Some (after_event k buffer client))
+after_plain k buffer client plain = (plain.0, sets_plain k buffer client.sets plain.1)
+
+heard_plain : (k : EventKind) (buffer link : ℕ) (clients : List Client) → HasNoTrims (at_key client_link link clients) → HasNoTrims (at_key client_link link (map (after_event k buffer) clients))
+heard_plain k buffer link [] plain = plain
+heard_plain k buffer link (client ∷ clients) plain = by (eqb (client_link client) link) plain (heard_plain k buffer link clients) where
+  by : (b : Bool) → HasNoTrims (cond b (Some client) (at_key client_link link clients)) → (HasNoTrims (at_key client_link link clients) → HasNoTrims (at_key client_link link (map (after_event k buffer) clients)))
+      → HasNoTrims (cond b (Some (after_event k buffer client)) (at_key client_link link (map (after_event k buffer) clients)))
+  by true plain more = after_plain k buffer client plain
+  by false plain more = more plain
+
+pub plain-heard : (limit : Option ℕ) (k : EventKind) (buffer link : ℕ) (clients : List Client) → IsPlain limit (at_key client_link link clients) → IsPlain limit (at_key client_link link (map (after_event k buffer) clients))
+plain-heard None k buffer link clients plain = tt
+plain-heard (Some limit) k buffer link clients plain = heard_plain k buffer link clients plain
+
 -- ---- events
 
-module _ (world : World) (notice : Notice) where
-  pub told_nothing : (client : Client) → asks_events client ≡ false → notice_told world notice client ≡ []
-  unfolding notice_told
-  told_nothing client e = rw (follows_none notice.kind notice.buffer.0 client e) refl
+none_told : (world : World) (parts : List Notice) (client : Client) → asks_events client ≡ false → parts_told world parts client ≡ []
+unfolding part_told
+none_told world [] client e = refl
+none_told world (part ∷ parts) client e =
+    let more = none_told world parts (after_event part.kind part.buffer.0 client) (heard_nothing part.kind part.buffer.0 client e) in
+    rw (follows_none part.kind part.buffer.0 client e) more
 
+pub told_nothing : (world : World) (notice : Notice) (client : Client) → asks_events client ≡ false → notice_told world notice client ≡ []
+told_nothing world notice client e = none_told world (parts_of world notice) client e
+
+-- a part that is told whoever follows all events
+abbrev pub IsHeard : Option ℕ → EventKind → Type 0
+IsHeard limit kind.LinesTrimmed = IsUnlimited limit
+IsHeard limit _ = Unit {0}
+
+module _ (limit : Option ℕ) (world : World) (part : Notice) where
   -- the messages of an event of this kind
   abbrev messages_as : EventKind → List WireMessage
-  messages_as k = if_fits (option_map (λ objects. record { id = id_of k; objects = objects }) (objects_of world k notice))
+  messages_as k = if_fits (option_map (λ objects. record { id = id_of k; objects = objects }) (objects_of world k part))
 
-  -- of a touched row nothing is told
-  told_as : (k : EventKind) (client : Client) → follows_all client ≡ true → cond (follows k notice.buffer.0 client) (messages_as k) no_messages ≡ messages_as k
+  -- of a touched row, and of another limit, nothing is told
+  told_as : (k : EventKind) (client : Client) → IsHeard limit k → follows_all limit client ≡ true → cond (follows k part.buffer.0 client) (messages_as k) no_messages ≡ messages_as k
   unfolding objects_of
-  told_as kind.NickTouched client e = refl
-  told_as k client e = ap (λ b. cond b (messages_as k) no_messages) (follows_each k notice.buffer.0 client tt e)
+  told_as kind.NickTouched client heard e = refl
+  told_as kind.LimitSet client heard e = refl
+  told_as kind.LinesTrimmed client heard e = ap (λ b. cond b (messages_as kind.LinesTrimmed) no_messages) (follows_each limit kind.LinesTrimmed part.buffer.0 client heard e)
+  told_as k client heard e = ap (λ b. cond b (messages_as k) no_messages) (follows_each limit k part.buffer.0 client tt e)
 
   -- a client that follows all events is told each
-  pub told_each : (client : Client) → follows_all client ≡ true → notice_told world notice client ≡ event_messages world notice
-  unfolding notice_told
-  told_each client e = told_as notice.kind client e
+  told_each : (client : Client) → IsHeard limit part.kind → follows_all limit client ≡ true → part_told world part client ≡ event_messages world part
+  unfolding part_told
+  told_each client heard e = told_as part.kind client heard e
+
+-- whoever keeps no limit of its own hears all parts
+heard_all : (k : EventKind) → IsHeard None k
+heard_all kind.LinesTrimmed = tt
+heard_all _ = tt
+
+all_told : (world : World) (parts : List Notice) (client : Client) → follows_all None client ≡ true → parts_told world parts client ≡ flat_map (event_messages world) parts
+all_told world [] client e = refl
+all_told world (part ∷ parts) client e =
+    let here = told_each None world part client (heard_all part.kind) e in
+    let more = all_told world parts (after_event part.kind part.buffer.0 client) e in
+    λ i. here i ++ more i
+
+-- of lines that went nothing is told to whoever did not ask for it
+untrimmed : (world : World) (trims : List Trim) (client : Client) → HasNoTrims (Some client) → parts_told world (map trim_part trims) client ≡ []
+unfolding part_told
+untrimmed world [] client plain = refl
+untrimmed world (trim ∷ trims) client plain =
+    let more = untrimmed world trims client plain in
+    rw (trims_unfollowed trim.buffer.0 client plain) more
+
+-- the kind of the event of a change
+abbrev pub IsOwn : EventKind → Type 0
+IsOwn kind.LinesTrimmed = ⊥
+IsOwn _ = Unit {0}
+
+own_heard : (limit : Option ℕ) (k : EventKind) → IsOwn k → IsHeard limit k
+own_heard limit kind.LinesTrimmed own = absurd own
+own_heard limit _ own = tt
+
+-- a client that follows all events is told the parts that a mirror needs
+pub told_heard : (limit : Option ℕ) (world : World) (notice : Notice) (client : Client) → IsOwn notice.kind → follows_all limit client ≡ true → IsPlain limit (Some client)
+    → notice_told world notice client ≡ flat_map (event_messages world) (heard_parts limit world notice)
+told_heard None world notice client own e plain = all_told world (parts_of world notice) client e
+told_heard (Some limit) world notice client own e plain =
+    let here = told_each (Some limit) world notice client (own_heard (Some limit) notice.kind own) e in
+    let more = untrimmed world notice.trims (after_event notice.kind notice.buffer.0 client) (after_plain notice.kind notice.buffer.0 client plain) in
+    λ i. here i ++ more i
 
 -- ---- pushes
 
@@ -315,8 +434,8 @@ module _ (buffer : Handle) where
   pushed_nothing push client e = rw (follows_none (push_kind push) buffer.0 client e) refl
 
   -- a client that follows all events is told each
-  pub pushed_each : (push : Push) (client : Client) → follows_all client ≡ true → push_told buffer push client ≡ push_messages buffer push
+  pub pushed_each : (limit : Option ℕ) (push : Push) (client : Client) → follows_all limit client ≡ true → push_told buffer push client ≡ push_messages buffer push
   unfolding push_told
-  pushed_each Nothing client e = refl
-  pushed_each (Diff items) client e = ap (λ b. cond b (push_messages buffer (Diff items)) no_messages) (follows_each kind.NicklistDiff buffer.0 client tt e)
-  pushed_each (Full items) client e = ap (λ b. cond b (push_messages buffer (Full items)) no_messages) (follows_each kind.Nicklist buffer.0 client tt e)
+  pushed_each limit Nothing client e = refl
+  pushed_each limit (Diff items) client e = ap (λ b. cond b (push_messages buffer (Diff items)) no_messages) (follows_each limit kind.NicklistDiff buffer.0 client tt e)
+  pushed_each limit (Full items) client e = ap (λ b. cond b (push_messages buffer (Full items)) no_messages) (follows_each limit kind.Nicklist buffer.0 client tt e)

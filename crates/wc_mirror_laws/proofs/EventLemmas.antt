@@ -16,17 +16,17 @@ use Rattle.wc_servers.specs.Seats.{server_link}
 use Rattle.wc_core.specs.Limits.{client_limit}
 use Rattle.wc_core.specs.Step.{client_link, then_does, sends, reply_step, request_step, link_line_step, link_loss_step, step}
 use Rattle.wc_mirror_laws.specs.Held.{HeldPart, HeldOf, Has}
-use Rattle.wc_mirror_laws.specs.Settled.{AskedFor, asked_by, asked_with, asked_in, client_on, is_following, TakesDump, IsFair}
+use Rattle.wc_mirror_laws.specs.Settled.{AskedFor, asked_by, asked_with, asked_in, client_on, is_following, TakesDump, IsFair, IsPlain, IsLimited}
 use Rattle.wc_mirror_laws.specs.Kept.{IsStateKept}
 use Rattle.wc_mirror_laws.specs.Mirrors.{mirror_after, StepMirrors, DumpMirrors}
 use Rattle.wc_mirror_laws.proofs.IdLemmas.{request_free}
-use Rattle.wc_mirror_laws.proofs.AskedLemmas.{before_reply, asked_after, Tells-before, all_told, before_right}
-use Rattle.wc_mirror_laws.proofs.PushLemmas.{Tells-pushes}
+use Rattle.wc_mirror_laws.proofs.AskedLemmas.{before_reply, before_clients, asked_after, Tells-before, all_told, before_right}
+use Rattle.wc_mirror_laws.proofs.PushLemmas.{push_right}
 use Rattle.wc_mirror_laws.proofs.ReplyLemmas.{dump_right, reply_right, sends_right}
 use Rattle.wc_mirror_laws.proofs.ChangeLemmas.{mirror-append}
 use Rattle.wc_mirror_laws.proofs.InputLemmas.{Tells-start}
 use Rattle.wc_mirror_laws.proofs.ServerLemmas.{Tells-line, Tells-loss, Tells-stands}
-use Rattle.wc_mirror_laws.proofs.StepLemmas.{arrived, asked_here, ticked, kept-ticked, reply_link, reply_text, right-answers}
+use Rattle.wc_mirror_laws.proofs.StepLemmas.{arrived, asked_here, ticked, kept-ticked, reply_link, reply_text, right-answers, reply_plain, back-replies}
 
 -- ---- what the client of a link asks at an event
 
@@ -74,7 +74,7 @@ asked_now link state k line client request at read here =
     asked_here link k state line (Some client) (ap (λ n. eqb n link) (sym key) ∙ here) at ∙ ap (asked_with client) read
 
 -- what a client has after what was done
-abbrev HasAfter : (which : HeldPart) → ℕ → ℕ → List ℕ → HeldOf which → Stepped → Type 0
+abbrev HasAfter : (which : HeldPart) → Option ℕ → ℕ → List ℕ → HeldOf which → Stepped → Type 0
 HasAfter which limit link id part stepped = Has which (mirror_after which limit link id part stepped.acts) stepped.state
 
 -- the client of a line, by its own link
@@ -82,82 +82,90 @@ found : (k : ℕ) (state : State) (client : Client) → at_key client_link k sta
 found k state client at = ap (λ n. at_key client_link n state.clients) (at_key-key client_link k state.clients client at) ∙ at
 
 -- where what comes before a reply and the reply leave a part right, so does what follows
-replied : (which : HeldPart) (limit link : ℕ) (id : List ℕ) (state : State) (k : ℕ) (line : List ℕ) (client : Client) (request : Request) (part : HeldOf which) → IsStateKept limit link state → BeginsWithout 95 id → request_of client.escaped line ≡ Some request
-    → is_following (client_on link (reply_step (before_reply state client request).state client request).state) ≡ true
+replied : (which : HeldPart) (limit : Option ℕ) (link : ℕ) (id : List ℕ) (state : State) (k : ℕ) (line : List ℕ) (client : Client) (request : Request) (part : HeldOf which) → IsStateKept link state → BeginsWithout 95 id → request_of client.escaped line ≡ Some request
+    → at_key client_link (client_link client) state.clients ≡ Some client → IsPlain limit (client_on link state) → is_following limit (client_on link (reply_step (before_reply state client request).state client request).state) ≡ true
+    → IsLimited limit (reply_step (before_reply state client request).state client request).state.world
     → Has which (mirror_after which limit link id (mirror_after which limit link id part (before_reply state client request).acts) (sends (client_link client) (reply_of (before_reply state client request).state.world (before_reply state client request).state.options client request).messages)) (before_reply state client request).state
     → HasAfter which limit link id part (then_does (before_reply state client request) (λ next. reply_step next client request))
-replied which limit link id state k line client request part kept free read following had =
+replied which limit link id state k line client request part kept free read at plain following limited had =
+    let tells = Tells-before which limit link id state client request free kept in
     let first = before_reply state client request in
     let next = first.state in
     let then = mirror_after which limit link id part first.acts in
     let answer = reply_of next.world next.options client request in
     let last = (reply_step next client request).state in
     subst (λ part. Has which part last) (sym (mirror-append which limit link id part first.acts (reply_step next client request).acts))
-    (right-answers which limit link id next (client_link client) answer then (reply_link next client line request read) (reply_text next client line request read)
-    (Tells-before which limit link id state client request free kept).kept free following had)
+    (right-answers which limit link id next (client_link client) answer then (reply_link next client line request read) (reply_text next client line request read) tells.kept free
+    (reply_plain limit link next client request (ap (λ clients. at_key client_link (client_link client) clients) (before_clients state client request) ∙ at) (tells.plain plain)) following limited had)
 
-line_right : (which : HeldPart) (limit link : ℕ) (id : List ℕ) (state : State) (k : ℕ) (line : List ℕ) (part : HeldOf which) → IsStateKept limit link state → BeginsWithout 95 id → length line ≤ 65536
-    → AllByRecursion (IsFair which id) (asked_in link state (LineCame k line)) → is_following (client_on link (step state (LineCame k line)).state) ≡ true → Has which part state
+line_right : (which : HeldPart) (limit : Option ℕ) (link : ℕ) (id : List ℕ) (state : State) (k : ℕ) (line : List ℕ) (part : HeldOf which) → IsStateKept link state → BeginsWithout 95 id → length line ≤ 65536
+    → AllByRecursion (IsFair which id) (asked_in link state (LineCame k line)) → IsPlain limit (client_on link state) → is_following limit (client_on link (step state (LineCame k line)).state) ≡ true
+    → IsLimited limit (step state (LineCame k line)).state.world → Has which part state
     → Has which (mirror_after which limit link id part (step state (LineCame k line)).acts) (step state (LineCame k line)).state
-line_right which limit link id state k line part kept free within fair after had = came (at_key client_link k state.clients) refl after where
+line_right which limit link id state k line part kept free within fair plain after limited had = came (at_key client_link k state.clients) refl after limited where
   served : (client : Client) (o : Option Request) → at_key client_link k state.clients ≡ Some client → request_of client.escaped line ≡ o
-      → is_following (client_on link (request_step state client o).state) ≡ true → Has which (mirror_after which limit link id part (request_step state client o).acts) (request_step state client o).state
-  served client None at read after = had
-  served client (Some request) at read after =
+      → is_following limit (client_on link (request_step state client o).state) ≡ true → IsLimited limit (request_step state client o).state.world → Has which (mirror_after which limit link id part (request_step state client o).acts) (request_step state client o).state
+  served client None at read after limited = had
+  served client (Some request) at read after limited =
       let own = λ (here : eqb (client_link client) link ≡ true). (subst (AllByRecursion (IsFair which id)) (asked_now link state k line client request at read here) fair).0 in
       let first = before_reply state client request in
       let next = first.state in
       let steps = asked_after state client request in
-      let following = subst (λ (s : Stepped). is_following (client_on link s.state) ≡ true) steps after in
+      let following = subst (λ (s : Stepped). is_following limit (client_on link s.state) ≡ true) steps after in
       let then = mirror_after which limit link id part first.acts in
-      let had' : Has which then next = before_right which limit link id state client request part kept free (found k state client at) following had in
+      let tells = Tells-before which limit link id state client request free kept in
+      let before = found k state client at in
+      let last = subst (λ (s : Stepped). IsLimited limit s.state.world) steps limited in
+      let here = back-replies limit link next line client request read tells.kept last in
+      let had' : Has which then next = before_right which limit link id state client request part kept free before following had in
       subst (HasAfter which limit link id part) (sym steps)
-      (replied which limit link id state k line client request part kept free read following
+      (replied which limit link id state k line client request part kept free read before plain following last
       (sends_right which limit link id next (client_link client) (reply_of next.world next.options client request).messages then
-      (λ here. reply_right which limit link id next client line request then (Tells-before which limit link id state client request free kept).kept free within read (own here) (all_told which state client request) had') (λ else. had')))
+      (λ mine. reply_right which limit link id next client line request then tells.kept free within read (own mine) (all_told which state client request) here had') (λ else. had')))
 
-  came : (o : Option Client) → at_key client_link k state.clients ≡ o → is_following (client_on link (link_line_step state k line o).state) ≡ true
+  came : (o : Option Client) → at_key client_link k state.clients ≡ o → is_following limit (client_on link (link_line_step state k line o).state) ≡ true → IsLimited limit (link_line_step state k line o).state.world
       → Has which (mirror_after which limit link id part (link_line_step state k line o).acts) (link_line_step state k line o).state
-  came None at after =
+  came None at after limited =
       let tells = Tells-line which limit link id free state k line (at_key server_link k state.servers) kept in
-      tells.right (sym tells.following ∙ after) part had
-  came (Some client) at after = served client (request_of client.escaped line) at refl after
+      tells.right (sym tells.following ∙ after) plain limited part had
+  came (Some client) at after limited = served client (request_of client.escaped line) at refl after limited
 
 -- ---- one event
 
-lost_right : (which : HeldPart) (limit link : ℕ) (id : List ℕ) (state : State) (k : ℕ) (why : Cause) (o : Option Client) (part : HeldOf which) → IsStateKept limit link state → BeginsWithout 95 id
-    → is_following (client_on link (link_loss_step state k why o).state) ≡ true → Has which part state
+lost_right : (which : HeldPart) (limit : Option ℕ) (link : ℕ) (id : List ℕ) (state : State) (k : ℕ) (why : Cause) (o : Option Client) (part : HeldOf which) → IsStateKept link state → BeginsWithout 95 id
+    → IsPlain limit (client_on link state) → is_following limit (client_on link (link_loss_step state k why o).state) ≡ true → IsLimited limit (link_loss_step state k why o).state.world → Has which part state
     → Has which (mirror_after which limit link id part (link_loss_step state k why o).acts) (link_loss_step state k why o).state
-lost_right which limit link id state k why None part kept free after had =
+lost_right which limit link id state k why None part kept free plain after limited had =
     let tells = Tells-loss which limit link id free k why state (at_key server_link k state.servers) kept in
-    tells.right (sym tells.following ∙ after) part had
-lost_right which limit link id state k why (Some client) part kept free after had = had
+    tells.right (sym tells.following ∙ after) plain limited part had
+lost_right which limit link id state k why (Some client) part kept free plain after limited had = had
 
 pub step_mirrors : (which : HeldPart) → StepMirrors which
-step_mirrors which limit link id state (Start moment) part kept free within fair after had =
+step_mirrors which limit link id state (Start moment) part kept free within fair plain after limited had =
     let tells = Tells-start which limit link id state moment free kept in
-    tells.right (sym tells.following ∙ after) part had
-step_mirrors which limit link id state (Tick moment) part kept free within fair after had =
-    (Tells-pushes which limit link id (ticked state moment) free (kept-ticked limit link state moment kept)).right after part had
-step_mirrors which limit link id state (Arrives k nonce) part kept free within fair after had = by (nat_lt (length state.clients) (client_limit state.options)) where
+    tells.right (sym tells.following ∙ after) plain limited part had
+step_mirrors which limit link id state (Tick moment) part kept free within fair plain after limited had =
+    push_right which limit link id (ticked state moment) part (kept-ticked link state moment kept) free after had
+step_mirrors which limit link id state (Arrives k nonce) part kept free within fair plain after limited had = by (nat_lt (length state.clients) (client_limit state.options)) where
   by : (b : Bool) → Has which (mirror_after which limit link id part (arrived state k nonce b).acts) (arrived state k nonce b).state
   by true = had
   by false = had
-step_mirrors which limit link id state (LineCame k line) part kept free within fair after had = line_right which limit link id state k line part kept free within fair after had
-step_mirrors which limit link id state (Stands k) part kept free within fair after had =
+step_mirrors which limit link id state (LineCame k line) part kept free within fair plain after limited had = line_right which limit link id state k line part kept free within fair plain after limited had
+step_mirrors which limit link id state (Stands k) part kept free within fair plain after limited had =
     let tells = Tells-stands which limit link id free state k (at_key server_link k state.servers) kept in
-    tells.right (sym tells.following ∙ after) part had
-step_mirrors which limit link id state (Ends k) part kept free within fair after had = lost_right which limit link id state k cause.Ended (at_key client_link k state.clients) part kept free after had
-step_mirrors which limit link id state (Fails k) part kept free within fair after had = lost_right which limit link id state k cause.Failed (at_key client_link k state.clients) part kept free after had
-step_mirrors which limit link id state (Breaks k) part kept free within fair after had = lost_right which limit link id state k cause.BadSocket (at_key client_link k state.clients) part kept free after had
-step_mirrors which limit link id state ListenFails part kept free within fair after had = had
+    tells.right (sym tells.following ∙ after) plain limited part had
+step_mirrors which limit link id state (Ends k) part kept free within fair plain after limited had = lost_right which limit link id state k cause.Ended (at_key client_link k state.clients) part kept free plain after limited had
+step_mirrors which limit link id state (Fails k) part kept free within fair plain after limited had = lost_right which limit link id state k cause.Failed (at_key client_link k state.clients) part kept free plain after limited had
+step_mirrors which limit link id state (Breaks k) part kept free within fair plain after limited had = lost_right which limit link id state k cause.BadSocket (at_key client_link k state.clients) part kept free plain after limited had
+step_mirrors which limit link id state ListenFails part kept free within fair plain after limited had = had
 
 -- ---- the dump
 
-line_dumps : (which : HeldPart) (limit link : ℕ) (id : List ℕ) (state : State) (k : ℕ) (line : List ℕ) (part : HeldOf which) (dump : AskedFor) → IsStateKept limit link state → length line ≤ 65536
-    → asked_in link state (LineCame k line) ≡ dump ∷ [] → TakesDump which id dump → is_following (client_on link (step state (LineCame k line)).state) ≡ true
+line_dumps : (which : HeldPart) (limit : Option ℕ) (link : ℕ) (id : List ℕ) (state : State) (k : ℕ) (line : List ℕ) (part : HeldOf which) (dump : AskedFor) → IsStateKept link state → length line ≤ 65536
+    → asked_in link state (LineCame k line) ≡ dump ∷ [] → TakesDump which id dump → IsPlain limit (client_on link state) → is_following limit (client_on link (step state (LineCame k line)).state) ≡ true
+    → IsLimited limit (step state (LineCame k line)).state.world
     → Has which (mirror_after which limit link id part (step state (LineCame k line)).acts) (step state (LineCame k line)).state
-line_dumps which limit link id state k line part dump kept within e takes after = by (eqb k link) refl where
+line_dumps which limit link id state k line part dump kept within e takes plain after limited = by (eqb k link) refl where
   none : List AskedFor
   none = []
 
@@ -165,39 +173,42 @@ line_dumps which limit link id state k line part dump kept within e takes after 
   free = subst (BeginsWithout 95) takes.under (asked_one link state (LineCame k line) dump none e).free
 
   served : (client : Client) (o : Option Request) → at_key client_link k state.clients ≡ Some client → request_of client.escaped line ≡ o → eqb k link ≡ true → asked_with client o ≡ dump ∷ []
-      → is_following (client_on link (request_step state client o).state) ≡ true → Has which (mirror_after which limit link id part (request_step state client o).acts) (request_step state client o).state
-  served client None at read here is after = absurd (let h = is in cc)
-  served client (Some request) at read here is after =
+      → is_following limit (client_on link (request_step state client o).state) ≡ true → IsLimited limit (request_step state client o).state.world → Has which (mirror_after which limit link id part (request_step state client o).acts) (request_step state client o).state
+  served client None at read here is after limited = absurd (let h = is in cc)
+  served client (Some request) at read here is after limited =
       let whole : record { client = client; request = request } ≡ dump = cc in
       let taken = subst (TakesDump which id) (sym whole) takes in
       let key : eqb (client_link client) link ≡ true = ap (λ n. eqb n link) (at_key-key client_link k state.clients client at) ∙ here in
       let first = before_reply state client request in
       let next = first.state in
       let steps = asked_after state client request in
-      let following = subst (λ (s : Stepped). is_following (client_on link s.state) ≡ true) steps after in
+      let following = subst (λ (s : Stepped). is_following limit (client_on link s.state) ≡ true) steps after in
       let then = mirror_after which limit link id part first.acts in
+      let tells = Tells-before which limit link id state client request free kept in
+      let last = subst (λ (s : Stepped). IsLimited limit s.state.world) steps limited in
+      let now = back-replies limit link next line client request read tells.kept last in
       subst (HasAfter which limit link id part) (sym steps)
-      (replied which limit link id state k line client request part kept free read following
+      (replied which limit link id state k line client request part kept free read (found k state client at) plain following last
       (sends_right which limit link id next (client_link client) (reply_of next.world next.options client request).messages then
-      (λ here. dump_right which limit link id next client line request then (Tells-before which limit link id state client request free kept).kept within read taken (all_told which state client request taken.logged_in taken.dump))
+      (λ mine. dump_right which limit link id next client line request then tells.kept within read taken (all_told which state client request taken.logged_in taken.dump) now)
       (λ else. absurd (let h : false ≡ true = sym else ∙ key in cc))))
 
-  came : (o : Option Client) → at_key client_link k state.clients ≡ o → eqb k link ≡ true → asked_by line o ≡ dump ∷ [] → is_following (client_on link (link_line_step state k line o).state) ≡ true
-      → Has which (mirror_after which limit link id part (link_line_step state k line o).acts) (link_line_step state k line o).state
-  came None at here is after = absurd (let h = is in cc)
-  came (Some client) at here is after = served client (request_of client.escaped line) at refl here is after
+  came : (o : Option Client) → at_key client_link k state.clients ≡ o → eqb k link ≡ true → asked_by line o ≡ dump ∷ [] → is_following limit (client_on link (link_line_step state k line o).state) ≡ true
+      → IsLimited limit (link_line_step state k line o).state.world → Has which (mirror_after which limit link id part (link_line_step state k line o).acts) (link_line_step state k line o).state
+  came None at here is after limited = absurd (let h = is in cc)
+  came (Some client) at here is after limited = served client (request_of client.escaped line) at refl here is after limited
 
   by : (b : Bool) → eqb k link ≡ b → Has which (mirror_after which limit link id part (step state (LineCame k line)).acts) (step state (LineCame k line)).state
-  by true here = let o = at_key client_link k state.clients in came o refl here (sym (asked_here link k state line o here refl) ∙ e) after
+  by true here = let o = at_key client_link k state.clients in came o refl here (sym (asked_here link k state line o here refl) ∙ e) after limited
   by false here = absurd (let h : none ≡ dump ∷ [] = sym (ap (λ b. cond b (asked_by line (client_on link state)) none) here) ∙ e in cc)
 
 pub dump_mirrors : (which : HeldPart) → DumpMirrors which
-dump_mirrors which limit link id state (Start moment) part dump kept within e takes after = absurd (let h = e in cc)
-dump_mirrors which limit link id state (Tick moment) part dump kept within e takes after = absurd (let h = e in cc)
-dump_mirrors which limit link id state (Arrives k nonce) part dump kept within e takes after = absurd (let h = e in cc)
-dump_mirrors which limit link id state (LineCame k line) part dump kept within e takes after = line_dumps which limit link id state k line part dump kept within e takes after
-dump_mirrors which limit link id state (Stands k) part dump kept within e takes after = absurd (let h = e in cc)
-dump_mirrors which limit link id state (Ends k) part dump kept within e takes after = absurd (let h = e in cc)
-dump_mirrors which limit link id state (Fails k) part dump kept within e takes after = absurd (let h = e in cc)
-dump_mirrors which limit link id state (Breaks k) part dump kept within e takes after = absurd (let h = e in cc)
-dump_mirrors which limit link id state ListenFails part dump kept within e takes after = absurd (let h = e in cc)
+dump_mirrors which limit link id state (Start moment) part dump kept within e takes plain after limited = absurd (let h = e in cc)
+dump_mirrors which limit link id state (Tick moment) part dump kept within e takes plain after limited = absurd (let h = e in cc)
+dump_mirrors which limit link id state (Arrives k nonce) part dump kept within e takes plain after limited = absurd (let h = e in cc)
+dump_mirrors which limit link id state (LineCame k line) part dump kept within e takes plain after limited = line_dumps which limit link id state k line part dump kept within e takes plain after limited
+dump_mirrors which limit link id state (Stands k) part dump kept within e takes plain after limited = absurd (let h = e in cc)
+dump_mirrors which limit link id state (Ends k) part dump kept within e takes plain after limited = absurd (let h = e in cc)
+dump_mirrors which limit link id state (Fails k) part dump kept within e takes plain after limited = absurd (let h = e in cc)
+dump_mirrors which limit link id state (Breaks k) part dump kept within e takes plain after limited = absurd (let h = e in cc)
+dump_mirrors which limit link id state ListenFails part dump kept within e takes plain after limited = absurd (let h = e in cc)

@@ -1,10 +1,11 @@
 -- Changes that set no flag of a line, and whose lines have a level of 8 bits.
-use Rattle.std.proofs.Common.{◌≡◌, ℕ, Bool, true, false, cond, ◌&&◌, List, [], ◌∷◌, ◌++◌, map, Option, Some, None, refl, IsUtf8}
+use Rattle.std.proofs.Common.{◌≡◌, ℕ, Bool, true, false, cond, ◌&&◌, List, [], ◌∷◌, ◌++◌, map, Option, Some, None, refl, arith, nat_le, IsUtf8}
 use Rattle.std.specs.List.{AllByRecursion, flat_map, list_all}
 use Rattle.std.specs.Int.{w8}
 use Rattle.std.specs.Int.RustNames.{FitsSigned}
 use Rattle.std.specs.Str.{is_utf8}
 use Rattle.std.proofs.lemmas.Bool.{false≢true}
+use Rattle.std.proofs.lemmas.Bool.Decides.{nat_tests}
 use Rattle.std.proofs.lemmas.List.Elements.{All-from_recursion}
 use Rattle.std.proofs.lemmas.Str.{IsUtf8-from_is_utf8}
 use Rattle.wc_text.specs.declared.names.Pair.{Pair}
@@ -84,6 +85,11 @@ mild_told (what.RemoveGroup name) e mild = tt
 mild_told (what.RemoveNick name) e mild = tt
 mild_told (what.ChangeGroup item) e mild = item_name item e
 mild_told (what.ChangeNick item) e mild = item_name item e
+mild_told (what.Limit limit) e mild =
+    let parts = both (nat_le 1 limit) (nat_le limit 4096) e in
+    let low = parts.0 in
+    let high = parts.1 in
+    (grind (arith, nat_tests), grind (arith, nat_tests))
 
 -- dates change nothing of that
 pub mild_dated : (moment : ℕ) (w : What) → IsMild w → IsMild (dated moment w)

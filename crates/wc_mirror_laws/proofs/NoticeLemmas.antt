@@ -1,6 +1,6 @@
 -- What is noticed of a change is within its limits.
-use Rattle.std.proofs.Common.{◌≡◌, ℕ, ◌<◌, ◌≤◌, ◌^◌, Bool, true, false, cond, eqb, eqb-true, find, List, [], ◌∷◌, length, Option, Some, None, option_map, refl, sym, subst, arith, IsUtf8}
-use Rattle.std.specs.List.{AllByRecursion}
+use Rattle.std.proofs.Common.{◌≡◌, ℕ, ◌+◌, ◌-◌, ◌<◌, ◌≤◌, ◌^◌, Bool, true, false, cond, eqb, eqb-true, find, List, [], ◌∷◌, length, Option, Some, None, option_map, refl, sym, subst, arith, IsUtf8}
+use Rattle.std.specs.List.{AllByRecursion, flat_map}
 use Rattle.std.proofs.lemmas.Str.{IsUtf8-nil}
 use Rattle.wc_text.specs.declared.names.Handle.{Handle}
 use Rattle.wc_buffers.specs.declared.row.BufferEntry.{BufferEntry}
@@ -11,27 +11,35 @@ use Rattle.wc_nicklist.specs.Calls.{remove_refusal, change_refusal}
 use Rattle.wc_world.proofs.GroupRows.{some_row}
 use Rattle.wc_world.proofs.NicksDone.{may_add, may_edit}
 use Rattle.wc_model.specs.declared.change.What.{What}
-use Rattle.wc_model.specs.declared.change.What.TheVariants.{Add, Close, MoveTo, MergeInto, Unmerge, Hide, Unhide, Rename, ShortName, Title, SetVar, RemoveVar, Print, Clear, Flips, AddGroup, AddNick, RemoveGroup, RemoveNick, ChangeGroup, ChangeNick}
+use Rattle.wc_model.specs.declared.change.What.TheVariants.{Add, Close, MoveTo, MergeInto, Unmerge, Hide, Unhide, Rename, ShortName, Title, SetVar, RemoveVar, Print, Clear, Flips, AddGroup, AddNick, RemoveGroup, RemoveNick, ChangeGroup, ChangeNick, Limit}
 use Rattle.wc_model.specs.declared.notice.EventKind.{EventKind}
 use Rattle.wc_model.specs.declared.notice.Notice.{Notice}
 use Rattle.wc_model.specs.World.{World, lines_at, rows_at}
 use Rattle.wc_model.specs.Order.{before_in, first_of, after_in, order}
 use Rattle.wc_model.specs.Apply.{refusal_of, after_of}
-use Rattle.wc_model.specs.Notices.{notice_at, notice_of, name_in}
+use Rattle.wc_model.specs.declared.notice.Trim.{Trim}
+use Rattle.wc_model.specs.Notices.{notice_with, notice_at, notice_of, name_in, trim_of, trim_to}
+use Rattle.wc_model.specs.Parts.{trim_part, parts_of}
 use Rattle.wc_view.specs.Views.{IsMirrorable}
 use Rattle.wc_mirror_laws.specs.Worlds.{IsBufferKept, IsWorldKept}
-use Rattle.wc_mirror_laws.proofs.ListLemmas.{all_map}
+use Rattle.wc_mirror_laws.proofs.ListLemmas.{all_map, all_flat}
 use Rattle.wc_mirror_laws.proofs.RowLemmas.{row_has}
 use Rattle.wc_mirror_laws.specs.Changes.{IsTold}
 use Rattle.wc_mirror_laws.proofs.WorldLemmas.{once, accepted, both_accepted, after_kept}
 
--- handles of 64 bits, and a full name
+-- a handle of 64 bits, and no more lines than a buffer may have held
+pub record IsTrimTold (trim : Trim) : Type 0 where
+  pub buffer : trim.buffer.0 < 2 ^ 64
+  pub count : trim.count ≤ 4097
+
+-- handles of 64 bits, a full name, and the lines that went
 pub record IsTelling (n : Notice) : Type 0 where
   pub buffer : n.buffer.0 < 2 ^ 64
   pub name : IsUtf8 n.full_name
   pub short : length n.full_name ≤ 256
   pub prev : n.prev.0 < 2 ^ 64
   pub next : n.next.0 < 2 ^ 64
+  pub trims : AllByRecursion IsTrimTold n.trims
 
 -- ---- the buffers before and after
 
@@ -66,8 +74,9 @@ named : (limit : ℕ) (v : World) (o : Option BufferEntry) → ((e : BufferEntry
 named limit v None is = (IsUtf8-nil, omega arith)
 named limit v (Some e) is = let kept = is e refl in (kept.fit.text.full_name, kept.fit.full_name.1)
 
-telling_at : (limit : ℕ) (v : World) (kind : EventKind) (h : Handle) (lines flips : List Handle) → IsWorldKept limit v → h.0 < 2 ^ 64 → IsTelling (notice_at kind h v.groups lines flips)
-telling_at limit v kind h lines flips is small =
+telling_with : (limit : ℕ) (v : World) (kind : EventKind) (h : Handle) (lines flips : List Handle) (trims : List Trim) → IsWorldKept limit v → h.0 < 2 ^ 64 → AllByRecursion IsTrimTold trims
+    → IsTelling (notice_with kind h v.groups lines flips trims)
+telling_with limit v kind h lines flips trims is small trimmed =
     let name = named limit v (entry_of h v.groups) (λ e at. row_has (IsBufferKept v.next) handle_of h.0 (rows v.groups) e at is.each) in
     let all = order_small limit v is in
     record {
@@ -76,7 +85,30 @@ telling_at limit v kind h lines flips is small =
       short = name.1;
       prev = before_small 0 h.0 (order v.groups) (omega arith) all;
       next = after_small h.0 (order v.groups) all;
+      trims = trimmed;
     }
+
+telling_at : (limit : ℕ) (v : World) (kind : EventKind) (h : Handle) (lines flips : List Handle) → IsWorldKept limit v → h.0 < 2 ^ 64 → IsTelling (notice_at kind h v.groups lines flips)
+telling_at limit v kind h lines flips is small = telling_with limit v kind h lines flips [] is small tt
+
+-- ---- the lines that went
+
+one_trim : (h : Handle) (count : ℕ) → h.0 < 2 ^ 64 → count ≤ 4097 → AllByRecursion IsTrimTold (trim_of h count)
+one_trim h count small few = by (eqb count 0) where
+  by : (b : Bool) → AllByRecursion IsTrimTold (cond b [] (record { buffer = h; count = count } ∷ []))
+  by true = tt
+  by false = (record { buffer = small; count = few }, tt)
+
+limit_trims : (limit other : ℕ) (w : World) → limit ≤ 4096 → IsWorldKept limit w → AllByRecursion IsTrimTold (flat_map (trim_to other w) (order w.groups))
+limit_trims limit other w most is =
+    all_flat (λ n. n < 2 ^ 64) IsTrimTold (trim_to other w) (order w.groups) (λ n small. one_trim (record { 0 = n }) (length (lines_at w n) - other) small (let held = is.within n in omega arith)) (order_small limit w is)
+
+-- the notice of such a trim is within its limits too
+pub trim_telling : (trim : Trim) → IsTrimTold trim → IsTelling (trim_part trim)
+trim_telling trim is = record { buffer = is.buffer; name = IsUtf8-nil; short = omega arith; prev = omega arith; next = omega arith; trims = (is, tt) }
+
+pub parts_telling : (v : World) (n : Notice) → IsTelling n → AllByRecursion IsTelling (parts_of v n)
+parts_telling v n tells = (tells, all_map IsTrimTold IsTelling trim_part n.trims trim_telling tells.trims)
 
 pub found_key : (h : ℕ) (xs : List BufferEntry) (e : BufferEntry) → find (λ x. eqb (handle_of x) h) xs ≡ Some e → handle_of e ≡ h
 found_key h [] e at = absurd (let f = at in cc)
@@ -92,12 +124,13 @@ there_small limit w h is there =
     let same = found_key h.0 (rows w.groups) r.0 r.1 in
     (let b = kept.below in let ended = is.ended in omega arith)
 
--- no buffer is added
+-- it is of one buffer, and none is added
 abbrev pub IsOld : What → Type 0
 IsOld (Add spec) = ⊥
+IsOld (Limit limit) = ⊥
 IsOld _ = Unit {0}
 
--- the buffer of a change that is accepted, where it is none that is added
+-- the buffer of a change of one buffer that is accepted, where it is none that is added
 pub target_there : (w : World) (h : Handle) (a : What) → IsTold a → refusal_of w h a ≡ None → IsOld a → is_there h w.groups ≡ true
 unfolding refusal_of
 target_there w h (Add spec) told good old = absurd old
@@ -121,44 +154,50 @@ target_there w h (RemoveGroup name) told good old = there_good h w.groups (may_e
 target_there w h (RemoveNick name) told good old = there_good h w.groups (may_edit w h (remove_refusal false name (rows_at w h.0)) good).there
 target_there w h (ChangeGroup item) told good old = there_good h w.groups (may_edit w h (change_refusal true item.name (rows_at w h.0)) good).there
 target_there w h (ChangeNick item) told good old = there_good h w.groups (may_edit w h (change_refusal false item.name (rows_at w h.0)) good).there
+target_there w h (Limit limit) told good old = absurd old
 
 -- what is noticed of an accepted change
-pub telling : (limit : ℕ) (w : World) (h : Handle) (a : What) → IsWorldKept limit w → IsTold a → refusal_of w h a ≡ None → IsTelling (notice_of w (after_of w h a) h a)
-telling limit w h (Add spec) is told good =
+pub telling : (limit : ℕ) (w : World) (h : Handle) (a : What) → limit ≤ 4096 → IsWorldKept limit w → IsTold a → refusal_of w h a ≡ None → IsTelling (notice_of w (after_of w h a) h a)
+telling limit w h (Add spec) most is told good =
     telling_at limit (after_of w h (Add spec)) _ (record { 0 = w.next }) _ _ (after_kept limit w h (Add spec) is told good) (let ended = is.ended in omega arith)
-telling limit w h Close is told good = telling_at limit w _ h _ _ is (there_small limit w h is (target_there w h Close told good tt))
-telling limit w h (MoveTo n) is told good = telling_at limit (after_of w h (MoveTo n)) _ h _ _ (after_kept limit w h (MoveTo n) is told good) (there_small limit w h is (target_there w h (MoveTo n) told good tt))
-telling limit w h (MergeInto into) is told good = telling_at limit (after_of w h (MergeInto into)) _ h _ _ (after_kept limit w h (MergeInto into) is told good) (there_small limit w h is (target_there w h (MergeInto into) told good tt))
-telling limit w h Unmerge is told good = telling_at limit (after_of w h Unmerge) _ h _ _ (after_kept limit w h Unmerge is told good) (there_small limit w h is (target_there w h Unmerge told good tt))
-telling limit w h Hide is told good = telling_at limit (after_of w h Hide) _ h _ _ (after_kept limit w h Hide is told good) (there_small limit w h is (target_there w h Hide told good tt))
-telling limit w h Unhide is told good = telling_at limit (after_of w h Unhide) _ h _ _ (after_kept limit w h Unhide is told good) (there_small limit w h is (target_there w h Unhide told good tt))
-telling limit w h (Rename name flips) is told good = telling_at limit (after_of w h (Rename name flips)) _ h _ _ (after_kept limit w h (Rename name flips) is told good) (there_small limit w h is (target_there w h (Rename name flips) told good tt))
-telling limit w h (ShortName name) is told good = telling_at limit (after_of w h (ShortName name)) _ h _ _ (after_kept limit w h (ShortName name) is told good) (there_small limit w h is (target_there w h (ShortName name) told good tt))
-telling limit w h (Title title) is told good = telling_at limit (after_of w h (Title title)) _ h _ _ (after_kept limit w h (Title title) is told good) (there_small limit w h is (target_there w h (Title title) told good tt))
-telling limit w h (SetVar var) is told good = telling_at limit (after_of w h (SetVar var)) _ h _ _ (after_kept limit w h (SetVar var) is told good) (there_small limit w h is (target_there w h (SetVar var) told good tt))
-telling limit w h (RemoveVar name) is told good = telling_at limit (after_of w h (RemoveVar name)) _ h _ _ (after_kept limit w h (RemoveVar name) is told good) (there_small limit w h is (target_there w h (RemoveVar name) told good tt))
-telling limit w h (Print line) is told good = telling_at limit (after_of w h (Print line)) _ h _ _ (after_kept limit w h (Print line) is told good) (there_small limit w h is (target_there w h (Print line) told good tt))
-telling limit w h Clear is told good = telling_at limit (after_of w h Clear) _ h _ _ (after_kept limit w h Clear is told good) (there_small limit w h is (target_there w h Clear told good tt))
-telling limit w h (Flips flips) is told good = absurd told
-telling limit w h (AddGroup parent item) is told good = telling_at limit (after_of w h (AddGroup parent item)) _ h _ _ (after_kept limit w h (AddGroup parent item) is told good) (there_small limit w h is (target_there w h (AddGroup parent item) told good tt))
-telling limit w h (AddNick group item) is told good = telling_at limit (after_of w h (AddNick group item)) _ h _ _ (after_kept limit w h (AddNick group item) is told good) (there_small limit w h is (target_there w h (AddNick group item) told good tt))
-telling limit w h (RemoveGroup name) is told good = telling_at limit (after_of w h (RemoveGroup name)) _ h _ _ (after_kept limit w h (RemoveGroup name) is told good) (there_small limit w h is (target_there w h (RemoveGroup name) told good tt))
-telling limit w h (RemoveNick name) is told good = telling_at limit (after_of w h (RemoveNick name)) _ h _ _ (after_kept limit w h (RemoveNick name) is told good) (there_small limit w h is (target_there w h (RemoveNick name) told good tt))
-telling limit w h (ChangeGroup item) is told good = telling_at limit (after_of w h (ChangeGroup item)) _ h _ _ (after_kept limit w h (ChangeGroup item) is told good) (there_small limit w h is (target_there w h (ChangeGroup item) told good tt))
-telling limit w h (ChangeNick item) is told good = telling_at limit (after_of w h (ChangeNick item)) _ h _ _ (after_kept limit w h (ChangeNick item) is told good) (there_small limit w h is (target_there w h (ChangeNick item) told good tt))
+telling limit w h Close most is told good = telling_at limit w _ h _ _ is (there_small limit w h is (target_there w h Close told good tt))
+telling limit w h (MoveTo n) most is told good = telling_at limit (after_of w h (MoveTo n)) _ h _ _ (after_kept limit w h (MoveTo n) is told good) (there_small limit w h is (target_there w h (MoveTo n) told good tt))
+telling limit w h (MergeInto into) most is told good = telling_at limit (after_of w h (MergeInto into)) _ h _ _ (after_kept limit w h (MergeInto into) is told good) (there_small limit w h is (target_there w h (MergeInto into) told good tt))
+telling limit w h Unmerge most is told good = telling_at limit (after_of w h Unmerge) _ h _ _ (after_kept limit w h Unmerge is told good) (there_small limit w h is (target_there w h Unmerge told good tt))
+telling limit w h Hide most is told good = telling_at limit (after_of w h Hide) _ h _ _ (after_kept limit w h Hide is told good) (there_small limit w h is (target_there w h Hide told good tt))
+telling limit w h Unhide most is told good = telling_at limit (after_of w h Unhide) _ h _ _ (after_kept limit w h Unhide is told good) (there_small limit w h is (target_there w h Unhide told good tt))
+telling limit w h (Rename name flips) most is told good = telling_at limit (after_of w h (Rename name flips)) _ h _ _ (after_kept limit w h (Rename name flips) is told good) (there_small limit w h is (target_there w h (Rename name flips) told good tt))
+telling limit w h (ShortName name) most is told good = telling_at limit (after_of w h (ShortName name)) _ h _ _ (after_kept limit w h (ShortName name) is told good) (there_small limit w h is (target_there w h (ShortName name) told good tt))
+telling limit w h (Title title) most is told good = telling_at limit (after_of w h (Title title)) _ h _ _ (after_kept limit w h (Title title) is told good) (there_small limit w h is (target_there w h (Title title) told good tt))
+telling limit w h (SetVar var) most is told good = telling_at limit (after_of w h (SetVar var)) _ h _ _ (after_kept limit w h (SetVar var) is told good) (there_small limit w h is (target_there w h (SetVar var) told good tt))
+telling limit w h (RemoveVar name) most is told good = telling_at limit (after_of w h (RemoveVar name)) _ h _ _ (after_kept limit w h (RemoveVar name) is told good) (there_small limit w h is (target_there w h (RemoveVar name) told good tt))
+telling limit w h (Print line) most is told good =
+    let small = there_small limit w h is (target_there w h (Print line) told good tt) in
+    telling_with limit (after_of w h (Print line)) _ h _ _ _ (after_kept limit w h (Print line) is told good) small (one_trim h (length (lines_at w h.0) + 1 - w.limit) small (let held = is.within h.0 in omega arith))
+telling limit w h Clear most is told good = telling_at limit (after_of w h Clear) _ h _ _ (after_kept limit w h Clear is told good) (there_small limit w h is (target_there w h Clear told good tt))
+telling limit w h (Flips flips) most is told good = absurd told
+telling limit w h (AddGroup parent item) most is told good = telling_at limit (after_of w h (AddGroup parent item)) _ h _ _ (after_kept limit w h (AddGroup parent item) is told good) (there_small limit w h is (target_there w h (AddGroup parent item) told good tt))
+telling limit w h (AddNick group item) most is told good = telling_at limit (after_of w h (AddNick group item)) _ h _ _ (after_kept limit w h (AddNick group item) is told good) (there_small limit w h is (target_there w h (AddNick group item) told good tt))
+telling limit w h (RemoveGroup name) most is told good = telling_at limit (after_of w h (RemoveGroup name)) _ h _ _ (after_kept limit w h (RemoveGroup name) is told good) (there_small limit w h is (target_there w h (RemoveGroup name) told good tt))
+telling limit w h (RemoveNick name) most is told good = telling_at limit (after_of w h (RemoveNick name)) _ h _ _ (after_kept limit w h (RemoveNick name) is told good) (there_small limit w h is (target_there w h (RemoveNick name) told good tt))
+telling limit w h (ChangeGroup item) most is told good = telling_at limit (after_of w h (ChangeGroup item)) _ h _ _ (after_kept limit w h (ChangeGroup item) is told good) (there_small limit w h is (target_there w h (ChangeGroup item) told good tt))
+telling limit w h (ChangeNick item) most is told good = telling_at limit (after_of w h (ChangeNick item)) _ h _ _ (after_kept limit w h (ChangeNick item) is told good) (there_small limit w h is (target_there w h (ChangeNick item) told good tt))
+telling limit w h (Limit other) most is told good =
+    telling_with other (after_of w h (Limit other)) _ (record { 0 = 0 }) _ _ _ (after_kept limit w h (Limit other) is told good) (omega arith) (limit_trims limit other w most is)
 
 -- ---- in the words of the mirror
 
-pub stands : (limit : ℕ) (w : World) → IsWorldKept limit w → IsMirrorable w
-stands limit w is = record {
+pub drawn : (limit : ℕ) (w : World) → IsWorldKept limit w → (h : ℕ) → has handle_of h w.groups ≡ true → h < w.next
+drawn limit w is h there =
+    let r = some_row handle_of h w.groups there in
+    let kept = row_has (IsBufferKept w.next) handle_of h (rows w.groups) r.0 r.1 is.each in
+    subst (λ n. n < w.next) (found_key h (rows w.groups) r.0 r.1) kept.below
+
+pub stands : (limit : ℕ) (w : World) → limit ≤ 4096 → IsWorldKept limit w → IsMirrorable w
+stands limit w most is = record {
   once = once limit w is;
-  drawn = drawn;
+  drawn = drawn limit w is;
   within = λ h. subst (λ n. length (lines_at w h) ≤ n) (sym is.same) (is.within h);
+  most = subst (λ n. n ≤ 4096) (sym is.same) most;
   gone = is.none;
 }
-  where
-    drawn : (h : ℕ) → has handle_of h w.groups ≡ true → h < w.next
-    drawn h there =
-        let r = some_row handle_of h w.groups there in
-        let kept = row_has (IsBufferKept w.next) handle_of h (rows w.groups) r.0 r.1 is.each in
-        subst (λ n. n < w.next) (found_key h (rows w.groups) r.0 r.1) kept.below

@@ -50,10 +50,10 @@ use Rattle.wc_mirror_laws.specs.Mirrors.{fold_all, mirror_after, PushKeeps, Push
 use Rattle.wc_mirror_laws.specs.Nicks.{AreRowsKept}
 use Rattle.wc_mirror_laws.specs.Settled.{client_on, follows_all, is_following}
 use Rattle.wc_mirror_laws.specs.Worlds.{IsBufferKept}
-use Rattle.wc_mirror_laws.proofs.ChangeLemmas.{fold_all-append, acts_spelt, clients_spelt, Tells}
+use Rattle.wc_mirror_laws.proofs.ChangeLemmas.{acts_spelt, clients_spelt, Tells}
 use Rattle.wc_mirror_laws.proofs.ClientLemmas.{told-first, pushed_nothing, pushed_each}
 use Rattle.wc_mirror_laws.proofs.DiffItems.{of_diff, of_full}
-use Rattle.wc_mirror_laws.proofs.HeldLemmas.{nicks_told}
+use Rattle.wc_mirror_laws.proofs.HeldLemmas.{fold_all-append, nicks_told}
 use Rattle.wc_mirror_laws.proofs.IdLemmas.{event_apart, id_free}
 use Rattle.wc_mirror_laws.proofs.ListLemmas.{all_map}
 use Rattle.wc_mirror_laws.proofs.MapLemmas.{get_put}
@@ -145,8 +145,8 @@ push_whole buffer (Diff ds) is = whole_message (diff_message buffer ds) is.short
 push_whole buffer (Full items) is = whole_message (full_message buffer items) is.short
 
 -- the push of a buffer
-buffer_good : (limit link : ℕ) (state : State) (e : BufferEntry) → IsStateKept limit link state → IsBufferKept state.world.next e → IsPushGood e.row.handle (push_at state (handle_of e))
-buffer_good limit link state e kept is =
+buffer_good : (link : ℕ) (state : State) (e : BufferEntry) → IsStateKept link state → IsBufferKept state.world.next e → IsPushGood e.row.handle (push_at state (handle_of e))
+buffer_good link state e kept is =
     let h = handle_of e in
     let was = kept.told.rows h in
     let now = kept.world.nicks.rows h in
@@ -164,48 +164,48 @@ told_spelt buffer push client all = by (follows (push_kind push) buffer.0 client
   by true = all
   by false = tt
 
-pushes_spelt : (limit link : ℕ) (state : State) (es : List BufferEntry) → IsStateKept limit link state → AllByRecursion (IsBufferKept state.world.next) es → AllSpelt (messages_to link (flat_map (pushes_of state) (map handle_of es)))
-pushes_spelt limit link state [] kept each = tt
-pushes_spelt limit link state (e ∷ es) kept each =
+pushes_spelt : (link : ℕ) (state : State) (es : List BufferEntry) → IsStateKept link state → AllByRecursion (IsBufferKept state.world.next) es → AllSpelt (messages_to link (flat_map (pushes_of state) (map handle_of es)))
+pushes_spelt link state [] kept each = tt
+pushes_spelt link state (e ∷ es) kept each =
     let push : Push = push_at state (handle_of e) in
     acts_spelt link (pushes_of state (handle_of e)) (flat_map (pushes_of state) (map handle_of es))
-    (clients_spelt link (push_told e.row.handle push) state.clients (λ client. told_spelt e.row.handle push client (push_spelt e.row.handle push (buffer_good limit link state e kept each.0))))
-    (pushes_spelt limit link state es kept each.1)
+    (clients_spelt link (push_told e.row.handle push) state.clients (λ client. told_spelt e.row.handle push client (push_spelt e.row.handle push (buffer_good link state e kept each.0))))
+    (pushes_spelt link state es kept each.1)
 
 -- the messages of the push of a buffer
 abbrev pushed_at : State → ℕ → List WireMessage
 pushed_at state buffer = push_messages (record { 0 = buffer }) (push_at state buffer)
 
 -- the client of a link that follows all events is sent all of them
-all_pushed : (link : ℕ) (state : State) (client : Client) → is_first_alone link state.clients ≡ true → at_key client_link link state.clients ≡ Some client → follows_all client ≡ true → (buffers : List ℕ)
+all_pushed : (limit : Option ℕ) (link : ℕ) (state : State) (client : Client) → is_first_alone link state.clients ≡ true → at_key client_link link state.clients ≡ Some client → follows_all limit client ≡ true → (buffers : List ℕ)
     → messages_to link (flat_map (pushes_of state) buffers) ≡ flat_map (pushed_at state) buffers
-all_pushed link state client first at all [] = refl
-all_pushed link state client first at all (b ∷ buffers) =
+all_pushed limit link state client first at all [] = refl
+all_pushed limit link state client first at all (b ∷ buffers) =
     let buffer : Handle = record { 0 = b } in
     let push : Push = push_at state b in
-    let here : messages_to link (pushes_of state b) ≡ pushed_at state b = told-first link (push_told buffer push) (pushed_nothing buffer push) state.clients client first at ∙ pushed_each buffer push client all in
-    messages_to-append link (pushes_of state b) (flat_map (pushes_of state) buffers) ∙ (λ i. here i ++ all_pushed link state client first at all buffers i)
+    let here : messages_to link (pushes_of state b) ≡ pushed_at state b = told-first link (push_told buffer push) (pushed_nothing buffer push) state.clients client first at ∙ pushed_each buffer limit push client all in
+    messages_to-append link (pushes_of state b) (flat_map (pushes_of state) buffers) ∙ (λ i. here i ++ all_pushed limit link state client first at all buffers i)
 
 -- ---- what a client makes of them
 
 -- lines and buffers stay
-lines_stay : (limit : ℕ) (id : List ℕ) (part : HeldOf Lines) (buffer : Handle) (push : Push) → BeginsWithout 95 id → fold_all Lines limit id part (messages_of (push_message buffer push)) ≡ part
+lines_stay : (limit : Option ℕ) (id : List ℕ) (part : HeldOf Lines) (buffer : Handle) (push : Push) → BeginsWithout 95 id → fold_all Lines limit id part (messages_of (push_message buffer push)) ≡ part
 lines_stay limit id part buffer Nothing free = refl
 lines_stay limit id part buffer (Diff ds) free = rw (event_apart (codes "nicklist_diff") id free) refl
 lines_stay limit id part buffer (Full items) free = rw (event_apart (codes "nicklist") id free) refl
 
-buffers_stay : (limit : ℕ) (id : List ℕ) (part : HeldOf Buffers) (buffer : Handle) (push : Push) → BeginsWithout 95 id → fold_all Buffers limit id part (messages_of (push_message buffer push)) ≡ part
+buffers_stay : (limit : Option ℕ) (id : List ℕ) (part : HeldOf Buffers) (buffer : Handle) (push : Push) → BeginsWithout 95 id → fold_all Buffers limit id part (messages_of (push_message buffer push)) ≡ part
 buffers_stay limit id part buffer Nothing free = refl
 buffers_stay limit id part buffer (Diff ds) free = rw (event_apart (codes "nicklist_diff") id free) refl
 buffers_stay limit id part buffer (Full items) free = rw (event_apart (codes "nicklist") id free) refl
 
-all_stay : (which : HeldPart) (limit link : ℕ) (id : List ℕ) (state : State) (part : HeldOf which) (es : List BufferEntry) → IsStateKept limit link state → AllByRecursion (IsBufferKept state.world.next) es
+all_stay : (which : HeldPart) (limit : Option ℕ) (link : ℕ) (id : List ℕ) (state : State) (part : HeldOf which) (es : List BufferEntry) → IsStateKept link state → AllByRecursion (IsBufferKept state.world.next) es
     → ((buffer : Handle) (push : Push) → fold_all which limit id part (messages_of (push_message buffer push)) ≡ part) → fold_all which limit id part (flat_map (pushed_at state) (map handle_of es)) ≡ part
 all_stay which limit link id state part [] kept each stays = refl
 all_stay which limit link id state part (e ∷ es) kept each stays =
     let push : Push = push_at state (handle_of e) in
     let rest = flat_map (pushed_at state) (map handle_of es) in
-    let here : fold_all which limit id part (pushed_at state (handle_of e)) ≡ part = ap (fold_all which limit id part) (push_whole e.row.handle push (buffer_good limit link state e kept each.0)) ∙ stays e.row.handle push in
+    let here : fold_all which limit id part (pushed_at state (handle_of e)) ≡ part = ap (fold_all which limit id part) (push_whole e.row.handle push (buffer_good link state e kept each.0)) ∙ stays e.row.handle push in
     fold_all-append which limit id part (pushed_at state (handle_of e)) rest ∙ ap (λ part. fold_all which limit id part rest) here ∙ all_stay which limit link id state part es kept each.1 stays
 
 stored : (o : Option (List Row)) → is_some o ≡ true → o ≡ Some (unwrap_or o [])
@@ -221,7 +221,7 @@ not_in h (e ∷ es) none =
 
 -- A client that has the rows that were told of these buffers, each of which is there once, and those of now of all others
 -- has those of now of all.
-nicks_pushed : (limit link : ℕ) (id : List ℕ) (state : State) (es : List BufferEntry) (held : NicksHeld) (m : Told) → IsStateKept limit link state → IsFree id → AllByRecursion (IsBufferKept state.world.next) es
+nicks_pushed : (limit : Option ℕ) (link : ℕ) (id : List ℕ) (state : State) (es : List BufferEntry) (held : NicksHeld) (m : Told) → IsStateKept link state → IsFree id → AllByRecursion (IsBufferKept state.world.next) es
     → ((q : ℕ) → times_in handle_of q es ≤ 1) → ((q : ℕ) → in_group handle_of q es ≡ true → has handle_of q state.world.groups ≡ true)
     → ((q : ℕ) → get m q ≡ cond (in_group handle_of q es) (get state.told q) (get state.world.nicks q)) → HasToldNicks held m
     → HasToldNicks (fold_all Nicks limit id held (flat_map (pushed_at state) (map handle_of es))) state.world.nicks
@@ -245,7 +245,7 @@ nicks_pushed limit link id state (e ∷ es) held m kept free each once among at 
     let one : HasToldNicks (fold_all Nicks limit id held (messages_of (push_message buffer push))) (insert m h now) =
     nicks_told limit id held m (insert m h now) (push_message buffer push) had (push_shows id m (root_at h) buffer old now free was tells shows) (push_roots id held.roots m buffer old now free was tells shows had.roots)
     in
-    let first = subst (λ ms. HasToldNicks (fold_all Nicks limit id held ms) (insert m h now)) (sym (push_whole buffer push (buffer_good limit link state e kept each.0))) one in
+    let first = subst (λ ms. HasToldNicks (fold_all Nicks limit id held ms) (insert m h now)) (sym (push_whole buffer push (buffer_good link state e kept each.0))) one in
     let rest = flat_map (pushed_at state) (map handle_of es) in
     subst (λ held. HasToldNicks held nicks) (sym (fold_all-append Nicks limit id held (pushed_at state h) rest))
     (nicks_pushed limit link id state es (fold_all Nicks limit id held (pushed_at state h)) (insert m h now) kept free each.1
@@ -269,7 +269,7 @@ nicks_pushed limit link id state (e ∷ es) held m kept free each once among at 
 
 -- ---- all buffers
 
-pushed_right : (which : HeldPart) (limit link : ℕ) (id : List ℕ) (state : State) (part : HeldOf which) → IsStateKept limit link state → BeginsWithout 95 id → Has which part state
+pushed_right : (which : HeldPart) (limit : Option ℕ) (link : ℕ) (id : List ℕ) (state : State) (part : HeldOf which) → IsStateKept link state → BeginsWithout 95 id → Has which part state
     → Has which (fold_all which limit id part (flat_map (pushed_at state) (map handle_of (rows state.world.groups)))) (push_step state).state
 pushed_right Lines limit link id state part kept free had =
     subst (λ part. Has Lines part (push_step state).state) (sym (all_stay Lines limit link id state part (rows state.world.groups) kept kept.world.each (λ buffer push. lines_stay limit id part buffer push free))) had
@@ -277,7 +277,7 @@ pushed_right Buffers limit link id state part kept free had =
     subst (λ part. Has Buffers part (push_step state).state) (sym (all_stay Buffers limit link id state part (rows state.world.groups) kept kept.world.each (λ buffer push. buffers_stay limit id part buffer push free))) had
 pushed_right Nicks limit link id state part kept free had =
     nicks_pushed limit link id state (rows state.world.groups) part state.told kept (id_free id free) kept.world.each
-    (λ q. let one = once limit state.world kept.world q in omega (arith, one, times_rows handle_of q state.world.groups))
+    (λ q. let one = once state.world.limit state.world kept.world q in omega (arith, one, times_rows handle_of q state.world.groups))
     (λ q t. sym (in_rows handle_of q state.world.groups) ∙ t) at had
   where
     either : (a b : Option (List Row)) (t : Bool) → is_some a ≡ t → is_some b ≡ t → a ≡ cond t a b
@@ -291,26 +291,32 @@ pushed_right Nicks limit link id state part kept free had =
         let there = in_rows handle_of q state.world.groups in
         either (get state.told q) (get state.world.nicks q) (in_group handle_of q (rows state.world.groups)) (kept.told.there q ∙ sym there) (kept.world.nicks.there q ∙ sym there)
 
+-- no limit of lines has a part in it
+pub push_right : (which : HeldPart) (limit : Option ℕ) (link : ℕ) (id : List ℕ) (state : State) (part : HeldOf which) → IsStateKept link state → BeginsWithout 95 id → is_following limit (client_on link state) ≡ true → Has which part state
+    → Has which (mirror_after which limit link id part (push_step state).acts) (push_step state).state
+push_right which limit link id state part kept free follows had = by (client_on link state) refl follows where
+  by : (o : Option Client) → client_on link state ≡ o → is_following limit o ≡ true → Has which (mirror_after which limit link id part (push_step state).acts) (push_step state).state
+  by None at follows = absurd (false≢true follows)
+  by (Some client) at follows =
+      let buffers = map handle_of (rows state.world.groups) in
+      subst (λ ms. Has which (fold_all which limit id part ms) (push_step state).state) (sym (all_pushed limit link state client kept.first at follows buffers)) (pushed_right which limit link id state part kept free had)
+
 -- what was told is then what there is
-pub Tells-pushes : (which : HeldPart) (limit link : ℕ) (id : List ℕ) (state : State) → BeginsWithout 95 id → IsStateKept limit link state → Tells which limit link id state (push_step state)
+pub Tells-pushes : (which : HeldPart) (limit : Option ℕ) (link : ℕ) (id : List ℕ) (state : State) → BeginsWithout 95 id → IsStateKept link state → Tells which limit link id state (push_step state)
 Tells-pushes which limit link id state free kept = record {
   following = refl;
   kept = record { most = kept.most; world = kept.world; told = kept.world.nicks; texts = kept.texts; first = kept.first };
-  spelt = pushes_spelt limit link state (rows state.world.groups) kept kept.world.each;
-  right = λ follows part had. by part had (client_on link state) refl follows;
+  plain = λ plain. plain;
+  back = λ limited. limited;
+  spelt = pushes_spelt link state (rows state.world.groups) kept kept.world.each;
+  right = λ follows plain limited part had. push_right which limit link id state part kept free follows had;
 }
-  where
-    by : (part : HeldOf which) → Has which part state → (o : Option Client) → client_on link state ≡ o → is_following o ≡ true → Has which (mirror_after which limit link id part (push_step state).acts) (push_step state).state
-    by part had None at follows = absurd (false≢true follows)
-    by part had (Some client) at follows =
-        let buffers = map handle_of (rows state.world.groups) in
-        subst (λ ms. Has which (fold_all which limit id part ms) (push_step state).state) (sym (all_pushed link state client kept.first at follows buffers)) (pushed_right which limit link id state part kept free had)
 
 pub push_keeps : PushKeeps
-push_keeps limit link state kept = (Tells-pushes Lines limit link [] state tt kept).kept
+push_keeps link state kept = (Tells-pushes Lines None link [] state tt kept).kept
 
 pub push_mirrors : (which : HeldPart) → PushMirrors which
-push_mirrors which limit link id state part kept free follows had = (Tells-pushes which limit link id state free kept).right follows part had
+push_mirrors which limit link id state part kept free follows had = push_right which limit link id state part kept free follows had
 
 -- ---- each fits in a message
 
@@ -320,12 +326,12 @@ whole_fits buffer (Diff ds) is = fits_within (diff_message buffer ds) is.short
 whole_fits buffer (Full items) is = fits_within (full_message buffer items) is.short
 
 pub lists_fit : ListsFit
-lists_fit limit link state kept = (
+lists_fit link state kept = (
   λ buffer there.
       let r = some_row handle_of buffer.0 state.world.groups there in
       let own : IsBufferKept state.world.next r.0 = row_has (IsBufferKept state.world.next) handle_of buffer.0 (rows state.world.groups) r.0 r.1 kept.world.each in
       let key : handle_of r.0 ≡ buffer.0 = found_key buffer.0 (rows state.world.groups) r.0 r.1 in
       subst (λ h. IfSome (push_message (record { 0 = h }) (push_at state h)) (λ m. fits m ≡ true)) key
-      (whole_fits r.0.row.handle (push_at state (handle_of r.0)) (buffer_good limit link state r.0 kept own)),
-  λ id known. fits_within (record { id = id; objects = nick_dump state.world }) (nick_dump_size limit id state.world known kept.world),
+      (whole_fits r.0.row.handle (push_at state (handle_of r.0)) (buffer_good link state r.0 kept own)),
+  λ id known. fits_within (record { id = id; objects = nick_dump state.world }) (nick_dump_size state.world.limit id state.world known kept.world),
 )

@@ -27,7 +27,7 @@ use Rattle.wc_core.specs.State.{State}
 use Rattle.wc_core.specs.Step.{sends}
 use Rattle.wc_mirror_laws.specs.Held.{HeldPart, Lines, Buffers, Nicks, HeldOf, asks_dump, fold_unrefused, fold_one, Has}
 use Rattle.wc_mirror_laws.specs.Roots.{RootPart, fold_roots}
-use Rattle.wc_mirror_laws.specs.Settled.{TakesDump, IsFair}
+use Rattle.wc_mirror_laws.specs.Settled.{TakesDump, IsFair, IsLimited}
 use Rattle.wc_mirror_laws.specs.Kept.{IsStateKept}
 use Rattle.wc_mirror_laws.specs.Mirrors.{fold_all, mirror_after}
 use Rattle.wc_mirror_laws.specs.Worlds.{IsWorldKept}
@@ -47,6 +47,7 @@ pub record IsOther (id other : List ℕ) : Type 0 where
   pub closing : bytes_eq other (codes "_buffer_closing") ≡ false
   pub cleared : bytes_eq other (codes "_buffer_cleared") ≡ false
   pub flags : bytes_eq other (codes "_buffer_line_data_changed") ≡ false
+  pub trims : bytes_eq other (codes "_buffer_lines_trimmed") ≡ false
   pub opened : bytes_eq other (codes "_buffer_opened") ≡ false
   pub nicklist : bytes_eq other (codes "_nicklist") ≡ false
   pub diff : bytes_eq other (codes "_nicklist_diff") ≡ false
@@ -60,19 +61,19 @@ unrooted : (id : List ℕ) (roots : RootPart) (m : WireMessage) → IsOther id m
 unrooted id roots m is = rw (is.dump, is.diff, is.nicklist, is.closing) refl
 
 -- a message under such an id changes nothing
-passed : (which : HeldPart) (limit : ℕ) (id : List ℕ) (part : HeldOf which) (m : WireMessage) → IsOther id m.id → fold_one which limit id part m ≡ part
-passed Lines limit id part m is = rw (is.dump, is.added, is.closing, is.cleared, is.flags) refl
+passed : (which : HeldPart) (limit : Option ℕ) (id : List ℕ) (part : HeldOf which) (m : WireMessage) → IsOther id m.id → fold_one which limit id part m ≡ part
+passed Lines limit id part m is = rw (is.dump, is.added, is.closing, is.cleared, is.flags, is.trims) refl
 passed Buffers limit id part m is = rw (is.dump, is.buffers) refl
 passed Nicks limit id held m is = λ i. record { rows = unread id held.rows m is i; roots = unrooted id held.roots m is i }
 
-unmoved : (which : HeldPart) (limit : ℕ) (id other : List ℕ) (part : HeldOf which) (messages : List WireMessage) → AtMostOne other messages → IsOther id other → fold_all which limit id part messages ≡ part
+unmoved : (which : HeldPart) (limit : Option ℕ) (id other : List ℕ) (part : HeldOf which) (messages : List WireMessage) → AtMostOne other messages → IsOther id other → fold_all which limit id part messages ≡ part
 unmoved which limit id other part [] one is = refl
 unmoved which limit id other part (m ∷ []) one is = passed which limit id part m (subst (IsOther id) (sym one) is)
 unmoved which limit id other part (m ∷ n ∷ messages) one is = absurd one
 
 -- the id of a request, and that of its reply
 reply_other : (id other : List ℕ) (command : Command) → IsOther id other → bytes_eq (codes "_pong") id ≡ false → IsOther id (id_of_reply other command)
-reply_other id other (ask.Ping text) is pong = record { dump = pong; added = refl; closing = refl; cleared = refl; flags = refl; opened = refl; nicklist = refl; diff = refl; buffers = refl }
+reply_other id other (ask.Ping text) is pong = record { dump = pong; added = refl; closing = refl; cleared = refl; flags = refl; trims = refl; opened = refl; nicklist = refl; diff = refl; buffers = refl }
 reply_other id other _ is pong = is
 
 no_kind : (other : List ℕ) → BeginsWithout 95 other → kind_named other ≡ None
@@ -99,13 +100,14 @@ free_other id other free apart = record {
   closing = apart_event (codes "buffer_closing") other free;
   cleared = apart_event (codes "buffer_cleared") other free;
   flags = apart_event (codes "buffer_line_data_changed") other free;
+  trims = apart_event (codes "buffer_lines_trimmed") other free;
   opened = apart_event (codes "buffer_opened") other free;
   nicklist = apart_event (codes "nicklist") other free;
   diff = apart_event (codes "nicklist_diff") other free;
   buffers = no_kind other free;
 }
 
-other_reply : (which : HeldPart) (limit : ℕ) (id : List ℕ) (state : State) (client : Client) (line : List ℕ) (request : Request) (part : HeldOf which) → BeginsWithout 95 id
+other_reply : (which : HeldPart) (limit : Option ℕ) (id : List ℕ) (state : State) (client : Client) (line : List ℕ) (request : Request) (part : HeldOf which) → BeginsWithout 95 id
     → request_of client.escaped line ≡ Some request → bytes_eq request.id id ≡ false → fold_all which limit id part (reply_of state.world state.options client request).messages ≡ part
 other_reply which limit id state client line request part free read other =
     unmoved which limit id (id_of_reply request.id request.command) part (reply_of state.world state.options client request).messages (one_reply state.world state.options client request)
@@ -160,34 +162,34 @@ early_dump which world options client request early e =
     ∙ ap (λ b. (cond b (served world options client request.id request.command) (leaves client cause.LoginFailed)).messages) (closed_dump which request.command e)
 
 -- the dump shows its part, whatever the client had
-pub dump_right : (which : HeldPart) (limit link : ℕ) (id : List ℕ) (state : State) (client : Client) (line : List ℕ) (request : Request) (part : HeldOf which) → IsStateKept limit link state → length line ≤ 65536
-    → request_of client.escaped line ≡ Some request → TakesDump which id (record { client = client; request = request }) → IsAllTold which state
+pub dump_right : (which : HeldPart) (limit : Option ℕ) (link : ℕ) (id : List ℕ) (state : State) (client : Client) (line : List ℕ) (request : Request) (part : HeldOf which) → IsStateKept link state → length line ≤ 65536
+    → request_of client.escaped line ≡ Some request → TakesDump which id (record { client = client; request = request }) → IsAllTold which state → IsLimited limit state.world
     → Has which (fold_all which limit id part (reply_of state.world state.options client request).messages) state
-dump_right which limit link id state client line request part kept within read takes all =
+dump_right which limit link id state client line request part kept within read takes all limited =
     let size = request_size line client.escaped request read in
-    let fit = fits_within (message request.id (dump_of which state.world)) (dump_short which limit request.id state.world (omega arith) kept.most kept.world) in
-    let told = reply_dump which state.world state.options client request (walkable limit state.world kept.most kept.world) takes.logged_in takes.dump fit ∙ ap (λ id. message id (dump_of which state.world) ∷ []) takes.under in
-    subst (λ part. Has which part state) (sym (ap (fold_all which limit id part) told)) (dump_shown which limit id part state kept.world all)
+    let fit = fits_within (message request.id (dump_of which state.world)) (dump_short which state.world.limit request.id state.world (omega arith) kept.most kept.world) in
+    let told = reply_dump which state.world state.options client request (walkable state.world.limit state.world kept.most kept.world) takes.logged_in takes.dump fit ∙ ap (λ id. message id (dump_of which state.world) ∷ []) takes.under in
+    subst (λ part. Has which part state) (sym (ap (fold_all which limit id part) told)) (dump_shown which limit id part state kept.most kept.world limited all)
 
 -- ---- any reply
 
 -- a reply leaves a client that has a part with it
-pub reply_right : (which : HeldPart) (limit link : ℕ) (id : List ℕ) (state : State) (client : Client) (line : List ℕ) (request : Request) (part : HeldOf which) → IsStateKept limit link state → BeginsWithout 95 id → length line ≤ 65536
-    → request_of client.escaped line ≡ Some request → IsFair which id (record { client = client; request = request }) → (client.logged_in ≡ true → asks_dump which request.command ≡ true → IsAllTold which state) → Has which part state
+pub reply_right : (which : HeldPart) (limit : Option ℕ) (link : ℕ) (id : List ℕ) (state : State) (client : Client) (line : List ℕ) (request : Request) (part : HeldOf which) → IsStateKept link state → BeginsWithout 95 id → length line ≤ 65536
+    → request_of client.escaped line ≡ Some request → IsFair which id (record { client = client; request = request }) → (client.logged_in ≡ true → asks_dump which request.command ≡ true → IsAllTold which state) → IsLimited limit state.world → Has which part state
     → Has which (fold_all which limit id part (reply_of state.world state.options client request).messages) state
-reply_right which limit link id state client line request part kept free within read fair all had = by (bytes_eq request.id id) client.logged_in refl refl where
+reply_right which limit link id state client line request part kept free within read fair all limited had = by (bytes_eq request.id id) client.logged_in refl refl where
   messages : List WireMessage
   messages = (reply_of state.world state.options client request).messages
 
   by : (same logged : Bool) → bytes_eq request.id id ≡ same → client.logged_in ≡ logged → Has which (fold_all which limit id part messages) state
   by true true e logged =
-      dump_right which limit link id state client line request part kept within read (record { logged_in = logged; dump = fair e; under = (bytes_eq-Decides request.id id).0 e }) (all logged (fair e))
+      dump_right which limit link id state client line request part kept within read (record { logged_in = logged; dump = fair e; under = (bytes_eq-Decides request.id id).0 e }) (all logged (fair e)) limited
   by true false e early =
       subst (λ part. Has which part state) (sym (ap (fold_all which limit id part) (early_dump which state.world state.options client request early (fair e)))) had
   by false logged e was = subst (λ part. Has which part state) (sym (other_reply which limit id state client line request part free read e)) had
 
 -- what is sent to the client of one link
-pub sends_right : (which : HeldPart) (limit link : ℕ) (id : List ℕ) (state : State) (k : ℕ) (messages : List WireMessage) (part : HeldOf which)
+pub sends_right : (which : HeldPart) (limit : Option ℕ) (link : ℕ) (id : List ℕ) (state : State) (k : ℕ) (messages : List WireMessage) (part : HeldOf which)
     → (eqb k link ≡ true → Has which (fold_all which limit id part messages) state) → (eqb k link ≡ false → Has which part state)
     → Has which (mirror_after which limit link id part (sends k messages)) state
 sends_right which limit link id state k messages part here else =

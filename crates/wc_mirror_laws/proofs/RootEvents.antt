@@ -14,17 +14,19 @@ use Rattle.wc_buffers.specs.declared.row.BufferEntry.{BufferEntry}
 use Rattle.wc_buffers.specs.Calls.{handle_of, entry_of, lacks_var}
 use Rattle.wc_buffers.specs.Groups.{rows}
 use Rattle.wc_model.specs.declared.change.What.{What}
-use Rattle.wc_model.specs.declared.change.What.TheVariants.{Add, Close, MoveTo, MergeInto, Unmerge, Hide, Unhide, Rename, ShortName, Title, SetVar, RemoveVar, Print, Clear, Flips, AddGroup, AddNick, RemoveGroup, RemoveNick, ChangeGroup, ChangeNick}
+use Rattle.wc_model.specs.declared.change.What.TheVariants.{Add, Close, MoveTo, MergeInto, Unmerge, Hide, Unhide, Rename, ShortName, Title, SetVar, RemoveVar, Print, Clear, Flips, AddGroup, AddNick, RemoveGroup, RemoveNick, ChangeGroup, ChangeNick, Limit}
 use Rattle.wc_model.specs.declared.notice.EventKind.{EventKind}
 use Rattle.wc_model.specs.declared.notice.EventKind.TheVariants as event
 use Rattle.wc_model.specs.World.{World, rows_at, root_at}
 use Rattle.wc_model.specs.Apply.{after_of}
+use Rattle.wc_model.specs.declared.notice.Trim.{Trim}
 use Rattle.wc_model.specs.Notices.{notice_of, var_kind}
+use Rattle.wc_model.specs.Parts.{trim_part}
 use Rattle.wc_model.specs.Touches.{told_after}
 use Rattle.wc_world.proofs.GroupRows.{in_rows}
 use Rattle.wc_objects.specs.declared.object.Object.{Object}
 use Rattle.wc_objects.specs.declared.object.WireMessage.{WireMessage}
-use Rattle.wc_events.specs.BufferObjects.{event_of, objects_of}
+use Rattle.wc_events.specs.BufferObjects.{event_of, objects_of, trim_objects}
 use Rattle.wc_events.specs.NickObjects.{nick_path, nick_keys, nick_item, diff_item, nick_objects, diff_objects, push_message, root_and_rows, nick_dump}
 use Rattle.wc_session.specs.Sending.{message}
 use Rattle.wc_view.specs.Each.{onto, each}
@@ -55,6 +57,7 @@ is_rootless event.Closing = false
 is_rootless event.Nicklist = false
 is_rootless event.NicklistDiff = false
 is_rootless event.NickTouched = false
+is_rootless event.LimitSet = false
 is_rootless _ = true
 
 rootless_var : (b : Bool) → is_rootless (var_kind b) ≡ true
@@ -80,6 +83,8 @@ rootless_message id roots event.Closing objects e free = absurd (let z = e in cc
 rootless_message id roots event.Nicklist objects e free = absurd (let z = e in cc)
 rootless_message id roots event.NicklistDiff objects e free = absurd (let z = e in cc)
 rootless_message id roots event.NickTouched objects e free = absurd (let z = e in cc)
+rootless_message id roots event.LimitSet objects e free = absurd (let z = e in cc)
+rootless_message id roots event.LinesTrimmed objects e free = rw (other_id (codes "buffer_lines_trimmed") id free) refl
 
 rootless : (id : List ℕ) (roots : RootPart) (kind : EventKind) (objects : Option (List Object)) → is_rootless kind ≡ true → IsFree id → fold_told_roots id roots (option_map (message_of kind) objects) ≡ roots
 rootless id roots kind None e free = refl
@@ -119,6 +124,7 @@ stays id roots w h (RemoveGroup name) is free = refl
 stays id roots w h (RemoveNick name) is free = refl
 stays id roots w h (ChangeGroup item) is free = refl
 stays id roots w h (ChangeNick item) is free = refl
+stays id roots w h (Limit limit) is free = refl
 
 closes : (id : List ℕ) (roots : RootPart) (w : World) (h : Handle) → IsFree id → roots_after id roots w h Close ≡ remove roots h.0
 unfolding after_of objects_of
@@ -131,6 +137,11 @@ change_roots id roots told w h (Add spec) free has =
     subst (λ r. HasRoots r (insert told w.next [])) (sym (stays id roots w h (Add spec) tt free)) (put_roots roots told w.next [] (λ some. absurd (some refl)) has)
 change_roots id roots told w h Close free has = subst (λ r. HasRoots r (remove told h.0)) (sym (closes id roots w h free)) (closed_roots roots told h.0 has)
 change_roots id roots told w h a free has = subst (λ r. HasRoots r told) (sym (stays id roots w h a tt free)) has
+
+-- lines that went change no root
+pub trim_roots : (id : List ℕ) (roots : RootPart) (v : World) (trim : Trim) → IsFree id → fold_told_roots id roots (event_of v (trim_part trim)) ≡ roots
+unfolding objects_of
+trim_roots id roots v trim free = rootless id roots event.LinesTrimmed (Some (trim_objects trim)) refl free
 
 -- ---- pushes
 

@@ -30,9 +30,9 @@ use Rattle.wc_mirror_laws.proofs.ChangeLemmas.{Tells, Tells-stays, Tells-then, T
 use Rattle.wc_mirror_laws.proofs.MildCommands.{mild_disconnect, mild_typed, mild_unlinked}
 use Rattle.wc_mirror_laws.proofs.ServerLemmas.{kept_aside, Tells-aside, Tells-put, Tells-says, Tells-tries, Tells-server}
 
-module _ (which : HeldPart) (limit link : ℕ) (id : List ℕ) (free : BeginsWithout 95 id) where
+module _ (which : HeldPart) (limit : Option ℕ) (link : ℕ) (id : List ℕ) (free : BeginsWithout 95 id) where
   abbrev Kept : State → Type 0
-  Kept state = IsStateKept limit link state
+  Kept state = IsStateKept link state
 
   abbrev Does : State → Stepped → Type 0
   Does state stepped = Tells which limit link id state stepped
@@ -53,7 +53,7 @@ module _ (which : HeldPart) (limit link : ℕ) (id : List ℕ) (free : BeginsWit
 
     by : (o : Option SetRefused) → ((next : State) → Kept next → Does next (settings_step next settings)) → Does state (settings_if state setting (λ next. settings_step next settings) o)
     by None others =
-        Tells-put which limit link id free state next.options state.servers state.used (λ next. settings_step next settings) (others next (kept_aside limit link state next.options state.servers state.used kept))
+        Tells-put which limit link id free state next.options state.servers state.used (λ next. settings_step next settings) (others next (kept_aside link state next.options state.servers state.used kept))
     by (Some reason) others = says state (option_text setting.name reason) kept
 
   Tells-deletes : (state : State) (name : List ℕ) (o : Option (List ℕ)) → Kept state → Does state (delete_step state name o)

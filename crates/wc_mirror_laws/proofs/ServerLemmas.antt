@@ -49,13 +49,13 @@ serves_none link [] acts = refl
 serves_none link (out ∷ outs) acts = serves_none link outs acts
 
 -- options, servers and the numbers of links have no part in what always holds
-pub kept_aside : (limit link : ℕ) (state : State) (options : OptionsValue) (servers : List ServerSeat) (used : ℕ) → IsStateKept limit link state
-    → IsStateKept limit link (record state { options = options; servers = servers; used = used })
-kept_aside limit link state options servers used kept = record { most = kept.most; world = kept.world; told = kept.told; texts = kept.texts; first = kept.first }
+pub kept_aside : (link : ℕ) (state : State) (options : OptionsValue) (servers : List ServerSeat) (used : ℕ) → IsStateKept link state
+    → IsStateKept link (record state { options = options; servers = servers; used = used })
+kept_aside link state options servers used kept = record { most = kept.most; world = kept.world; told = kept.told; texts = kept.texts; first = kept.first }
 
-module _ (which : HeldPart) (limit link : ℕ) (id : List ℕ) (free : BeginsWithout 95 id) where
+module _ (which : HeldPart) (limit : Option ℕ) (link : ℕ) (id : List ℕ) (free : BeginsWithout 95 id) where
   abbrev Kept : State → Type 0
-  Kept state = IsStateKept limit link state
+  Kept state = IsStateKept link state
 
   abbrev Does : State → Stepped → Type 0
   Does state stepped = Tells which limit link id state stepped
@@ -67,15 +67,24 @@ module _ (which : HeldPart) (limit link : ℕ) (id : List ℕ) (free : BeginsWit
       let next : State = record state { options = options; servers = servers; used = used } in
       record {
         following = refl;
-        kept = kept_aside limit link state options servers used kept;
+        kept = kept_aside link state options servers used kept;
+        plain = λ plain. plain;
+        back = λ limited. limited;
         spelt = subst AllSpelt (sym none) tt;
-        right = λ follows part had. subst (λ messages. Has which (fold_all which limit id part messages) next) (sym none) had;
+        right = λ follows plain limited part had. subst (λ messages. Has which (fold_all which limit id part messages) next) (sym none) had;
       }
 
   -- what is done from another state that differs in these alone, which is come through
   pub Tells-put : (state : State) (options : OptionsValue) (servers : List ServerSeat) (used : ℕ) (others : State → Stepped) → Does (record state { options = options; servers = servers; used = used }) (others (record state { options = options; servers = servers; used = used }))
       → Does state (then_does (put_step (record state { options = options; servers = servers; used = used })) others)
-  Tells-put state options servers used others tells = record { following = tells.following; kept = tells.kept; spelt = tells.spelt; right = λ follows part had. tells.right follows part had }
+  Tells-put state options servers used others tells = record {
+    following = tells.following;
+    kept = tells.kept;
+    plain = λ plain. tells.plain plain;
+    back = λ limited. tells.back limited;
+    spelt = tells.spelt;
+    right = λ follows plain limited part had. tells.right follows plain limited part had;
+  }
 
   -- ---- acts, one by one
 
@@ -153,7 +162,7 @@ module _ (which : HeldPart) (limit link : ℕ) (id : List ℕ) (free : BeginsWit
   Tells-known k state server acts kept mild =
       let servers = (with_server state k server).servers in
       Tells-put state state.options servers state.used (λ next. server_acts_step false k next acts)
-      (Tells-server false k (with_server state k server) acts (kept_aside limit link state state.options servers state.used kept) mild)
+      (Tells-server false k (with_server state k server) acts (kept_aside link state state.options servers state.used kept) mild)
 
   pub Tells-line : (state : State) (k : ℕ) (line : List ℕ) (o : Option ServerSeat) → Kept state → Does state (server_line_step state k line o)
   Tells-line state k line None kept = Tells-stays which limit link id state kept

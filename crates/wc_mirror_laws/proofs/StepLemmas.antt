@@ -6,7 +6,7 @@ use Rattle.wc_text.specs.declared.names.Cause.{Cause}
 use Rattle.wc_text.specs.declared.names.Cause.TheVariants as cause
 use Rattle.wc_text.specs.declared.names.LinkId.{LinkId}
 use Rattle.wc_outside.specs.Keyed.{at_key, put_at, without}
-use Rattle.wc_outside.proofs.KeyedLemmas.{at_key-key, at_key-put_other, at_key-without_other, at_key-filter_same}
+use Rattle.wc_outside.proofs.KeyedLemmas.{at_key-key, put_at-same, at_key-put_other, at_key-without_other, at_key-filter_same}
 use Rattle.wc_relaycmd.specs.declared.request.Request.{Request}
 use Rattle.wc_relaycmd.specs.Answers.{request_of}
 use Rattle.wc_text.specs.Splits.{BeginsWithout}
@@ -21,67 +21,83 @@ use Rattle.wc_core.specs.Events.{Event, Start, Tick, Arrives, Line as LineCame, 
 use Rattle.wc_core.specs.State.{State, Stepped, Closes}
 use Rattle.wc_servers.specs.Seats.{server_link}
 use Rattle.wc_core.specs.Limits.{client_limit}
-use Rattle.wc_core.specs.Step.{client_link, no_step, sends, leave_step, outcome_step, answer_step, request_step, link_line_step, link_loss_step, step}
+use Rattle.wc_core.specs.Step.{client_link, sends, leave_step, outcome_step, answer_step, reply_step, request_step, link_line_step, link_loss_step, step}
 use Rattle.wc_core.specs.Changing.{put_step, reach_step}
 use Rattle.wc_core.specs.Served.{OutcomeUtf8}
 use Rattle.wc_core.specs.Typed.{lines_of_text}
 use Rattle.wc_core.proofs.ReplyLemmas.{reply_fits}
 use Rattle.wc_mirror_laws.specs.Held.{HeldPart, Lines, HeldOf, Has}
-use Rattle.wc_mirror_laws.specs.Settled.{asked_by, asked_with, asked_in, client_on, is_following}
+use Rattle.wc_mirror_laws.specs.Settled.{asked_by, asked_with, asked_in, client_on, is_following, IsPlain, IsLimited}
 use Rattle.wc_mirror_laws.specs.Kept.{is_first_alone, IsStateKept}
 use Rattle.wc_mirror_laws.specs.Mirrors.{mirror_after, StepKeeps}
 use Rattle.wc_mirror_laws.proofs.ClientLemmas.{following-push, first-push, first-put, first-without}
 use Rattle.wc_mirror_laws.proofs.ChangeLemmas.{mirror-append}
 use Rattle.wc_mirror_laws.proofs.InputLemmas.{Tells-runs, Tells-start}
 use Rattle.wc_mirror_laws.proofs.ServerLemmas.{Tells-line, Tells-loss, Tells-stands}
-use Rattle.wc_mirror_laws.proofs.AskedLemmas.{before_reply, asked_after, Tells-before}
+use Rattle.wc_mirror_laws.proofs.AskedLemmas.{before_reply, asked_after, Tells-before, OnInput, input_stays}
 use Rattle.wc_mirror_laws.proofs.PushLemmas.{Tells-pushes}
 use Rattle.wc_mirror_laws.proofs.TypedLemmas.{parted_text}
 
-kept-clients : (limit link : ℕ) (state : State) (clients : List Client) → IsStateKept limit link state → is_first_alone link clients ≡ true → IsStateKept limit link (record state { clients = clients })
-kept-clients limit link state clients kept e = record { most = kept.most; world = kept.world; told = kept.told; texts = kept.texts; first = e }
+kept-clients : (link : ℕ) (state : State) (clients : List Client) → IsStateKept link state → is_first_alone link clients ≡ true → IsStateKept link (record state { clients = clients })
+kept-clients link state clients kept e = record { most = kept.most; world = kept.world; told = kept.told; texts = kept.texts; first = e }
 
-kept-leaves : (limit link : ℕ) (state : State) (k : ℕ) (why : Cause) → IsStateKept limit link state → IsStateKept limit link (leave_step state k why).state
-kept-leaves limit link state k why kept = kept-clients limit link state (without client_link k state.clients) kept (first-without link k state.clients kept.first)
+kept-leaves : (link : ℕ) (state : State) (k : ℕ) (why : Cause) → IsStateKept link state → IsStateKept link (leave_step state k why).state
+kept-leaves link state k why kept = kept-clients link state (without client_link k state.clients) kept (first-without link k state.clients kept.first)
 
 -- ---- what an answer asks of the core
 
-kept-follows : (limit link : ℕ) (state : State) (k : ℕ) (o : Outcome) → OutcomeUtf8 o → IsStateKept limit link state → IsStateKept limit link (outcome_step state k o).state
-kept-follows limit link state k outcome.Replied utf8 kept = kept
-kept-follows limit link state k outcome.Silent utf8 kept = kept
-kept-follows limit link state k (outcome.Input buffer text) utf8 kept = (Tells-runs Lines limit link [] state buffer (lines_of_text text) tt kept (parted_text text utf8)).kept
-kept-follows limit link state k (outcome.Leave why) utf8 kept = kept-leaves limit link state k why kept
-kept-follows limit link state k outcome.NoMemory utf8 kept = kept
+kept-follows : (link : ℕ) (state : State) (k : ℕ) (o : Outcome) → OutcomeUtf8 o → IsStateKept link state → IsStateKept link (outcome_step state k o).state
+kept-follows link state k outcome.Replied utf8 kept = kept
+kept-follows link state k outcome.Silent utf8 kept = kept
+kept-follows link state k (outcome.Input buffer text) utf8 kept = (Tells-runs Lines None link [] state buffer (lines_of_text text) tt kept (parted_text text utf8)).kept
+kept-follows link state k (outcome.Leave why) utf8 kept = kept-leaves link state k why kept
+kept-follows link state k outcome.NoMemory utf8 kept = kept
 
-right-follows : (which : HeldPart) (limit link : ℕ) (id : List ℕ) (state : State) (k : ℕ) (o : Outcome) (part : HeldOf which) → OutcomeUtf8 o → IsStateKept limit link state → BeginsWithout 95 id
-    → is_following (client_on link (outcome_step state k o).state) ≡ true → Has which part state → Has which (mirror_after which limit link id part (outcome_step state k o).acts) (outcome_step state k o).state
-right-follows which limit link id state k outcome.Replied part utf8 kept free after had = had
-right-follows which limit link id state k outcome.Silent part utf8 kept free after had = had
-right-follows which limit link id state k (outcome.Input buffer text) part utf8 kept free after had =
+right-follows : (which : HeldPart) (limit : Option ℕ) (link : ℕ) (id : List ℕ) (state : State) (k : ℕ) (o : Outcome) (part : HeldOf which) → OutcomeUtf8 o → IsStateKept link state → BeginsWithout 95 id
+    → OnInput o (IsPlain limit (client_on link state)) → is_following limit (client_on link (outcome_step state k o).state) ≡ true → IsLimited limit (outcome_step state k o).state.world → Has which part state
+    → Has which (mirror_after which limit link id part (outcome_step state k o).acts) (outcome_step state k o).state
+right-follows which limit link id state k outcome.Replied part utf8 kept free plain after limited had = had
+right-follows which limit link id state k outcome.Silent part utf8 kept free plain after limited had = had
+right-follows which limit link id state k (outcome.Input buffer text) part utf8 kept free plain after limited had =
     let tells = Tells-runs which limit link id state buffer (lines_of_text text) free kept (parted_text text utf8) in
-    tells.right (sym tells.following ∙ after) part had
-right-follows which limit link id state k (outcome.Leave why) part utf8 kept free after had = had
-right-follows which limit link id state k outcome.NoMemory part utf8 kept free after had = had
+    tells.right (sym tells.following ∙ after) plain limited part had
+right-follows which limit link id state k (outcome.Leave why) part utf8 kept free plain after limited had = had
+right-follows which limit link id state k outcome.NoMemory part utf8 kept free plain after limited had = had
 
 -- the state after the messages of an answer
 abbrev pub put : State → ℕ → Client → State
 put state k client = record state { clients = put_at client_link k client state.clients }
 
-pub kept-put : (limit link : ℕ) (state : State) (k : ℕ) (client : Client) → client_link client ≡ k → IsStateKept limit link state → IsStateKept limit link (put state k client)
-kept-put limit link state k client here kept = kept-clients limit link state (put_at client_link k client state.clients) kept (first-put link k client state.clients here ∙ kept.first)
+pub kept-put : (link : ℕ) (state : State) (k : ℕ) (client : Client) → client_link client ≡ k → IsStateKept link state → IsStateKept link (put state k client)
+kept-put link state k client here kept = kept-clients link state (put_at client_link k client state.clients) kept (first-put link k client state.clients here ∙ kept.first)
 
-kept-answers : (limit link : ℕ) (state : State) (k : ℕ) (answer : Answer) → client_link answer.client ≡ k → OutcomeUtf8 answer.outcome → IsStateKept limit link state → IsStateKept limit link (answer_step state k answer).state
-kept-answers limit link state k answer here utf8 kept = kept-follows limit link (put state k answer.client) k answer.outcome utf8 (kept-put limit link state k answer.client here kept)
+kept-answers : (link : ℕ) (state : State) (k : ℕ) (answer : Answer) → client_link answer.client ≡ k → OutcomeUtf8 answer.outcome → IsStateKept link state → IsStateKept link (answer_step state k answer).state
+kept-answers link state k answer here utf8 kept = kept-follows link (put state k answer.client) k answer.outcome utf8 (kept-put link state k answer.client here kept)
 
 -- where the messages of an answer leave a part right, so does what follows them
-pub right-answers : (which : HeldPart) (limit link : ℕ) (id : List ℕ) (state : State) (k : ℕ) (answer : Answer) (part : HeldOf which) → client_link answer.client ≡ k → OutcomeUtf8 answer.outcome → IsStateKept limit link state → BeginsWithout 95 id
-    → is_following (client_on link (answer_step state k answer).state) ≡ true → Has which (mirror_after which limit link id part (sends k answer.messages)) state
+pub right-answers : (which : HeldPart) (limit : Option ℕ) (link : ℕ) (id : List ℕ) (state : State) (k : ℕ) (answer : Answer) (part : HeldOf which) → client_link answer.client ≡ k → OutcomeUtf8 answer.outcome → IsStateKept link state → BeginsWithout 95 id
+    → OnInput answer.outcome (IsPlain limit (client_on link (put state k answer.client))) → is_following limit (client_on link (answer_step state k answer).state) ≡ true → IsLimited limit (answer_step state k answer).state.world
+    → Has which (mirror_after which limit link id part (sends k answer.messages)) state
     → Has which (mirror_after which limit link id part (answer_step state k answer).acts) (answer_step state k answer).state
-right-answers which limit link id state k answer part here utf8 kept free after had =
+right-answers which limit link id state k answer part here utf8 kept free plain after limited had =
     let next = put state k answer.client in
     let last = (outcome_step next k answer.outcome).state in
     subst (λ part. Has which part last) (sym (mirror-append which limit link id part (sends k answer.messages) (outcome_step next k answer.outcome).acts))
-    (right-follows which limit link id next k answer.outcome (mirror_after which limit link id part (sends k answer.messages)) utf8 (kept-put limit link state k answer.client here kept) free after had)
+    (right-follows which limit link id next k answer.outcome (mirror_after which limit link id part (sends k answer.messages)) utf8 (kept-put link state k answer.client here kept) free plain after limited had)
+
+-- a client that is typed for did not come to ask for lines that went
+on_input : (o : Outcome) (P Q : Type 0) → (P → Q) → OnInput o P → OnInput o Q
+on_input (outcome.Input buffer text) P Q f p = f p
+on_input _ P Q f p = tt
+
+pub reply_plain : (limit : Option ℕ) (link : ℕ) (state : State) (client : Client) (request : Request) → at_key client_link (client_link client) state.clients ≡ Some client → IsPlain limit (client_on link state)
+    → OnInput (reply_of state.world state.options client request).outcome (IsPlain limit (client_on link (put state (client_link client) (reply_of state.world state.options client request).client)))
+reply_plain limit link state client request at plain =
+    let k = client_link client in
+    let answer = reply_of state.world state.options client request in
+    let same = subst (λ clients. IsPlain limit (at_key client_link link clients)) (sym (put_at-same client_link k state.clients client at)) plain in
+    on_input answer.outcome (answer.client ≡ client) (IsPlain limit (client_on link (put state k answer.client))) (λ e. subst (λ c. IsPlain limit (client_on link (put state k c))) (sym e) same)
+    (input_stays state.world state.options client request)
 
 -- ---- what is answered to a request
 
@@ -104,32 +120,32 @@ asked_here link k state line o here at =
     let same : k ≡ link = grind (arith, nat_tests) in
     ap (λ b. cond b (asked_by line (client_on link state)) []) here ∙ ap (λ n. asked_by line (at_key client_link n state.clients)) (sym same) ∙ ap (asked_by line) at
 
-kept-line : (limit link : ℕ) (state : State) (k : ℕ) (line : List ℕ) → IsStateKept limit link state → IsStateKept limit link (step state (LineCame k line)).state
-kept-line limit link state k line kept = came (at_key client_link k state.clients) where
-  served : (client : Client) (o : Option Request) → request_of client.escaped line ≡ o → IsStateKept limit link (request_step state client o).state
+kept-line : (link : ℕ) (state : State) (k : ℕ) (line : List ℕ) → IsStateKept link state → IsStateKept link (step state (LineCame k line)).state
+kept-line link state k line kept = came (at_key client_link k state.clients) where
+  served : (client : Client) (o : Option Request) → request_of client.escaped line ≡ o → IsStateKept link (request_step state client o).state
   served client None e = kept
   served client (Some request) e =
       let next = (before_reply state client request).state in
-      subst (λ (s : Stepped). IsStateKept limit link s.state) (sym (asked_after state client request))
-      (kept-answers limit link next (client_link client) (reply_of next.world next.options client request) (reply_link next client line request e) (reply_text next client line request e)
-      (Tells-before Lines limit link [] state client request tt kept).kept)
+      subst (λ (s : Stepped). IsStateKept link s.state) (sym (asked_after state client request))
+      (kept-answers link next (client_link client) (reply_of next.world next.options client request) (reply_link next client line request e) (reply_text next client line request e)
+      (Tells-before Lines None link [] state client request tt kept).kept)
 
-  came : (o : Option Client) → IsStateKept limit link (link_line_step state k line o).state
-  came None = (Tells-line Lines limit link [] tt state k line (at_key server_link k state.servers) kept).kept
+  came : (o : Option Client) → IsStateKept link (link_line_step state k line o).state
+  came None = (Tells-line Lines None link [] tt state k line (at_key server_link k state.servers) kept).kept
   came (Some client) = served client (request_of client.escaped line) refl
 
 -- ---- one event
 
-kept-lost : (limit link : ℕ) (state : State) (k : ℕ) (why : Cause) (o : Option Client) → IsStateKept limit link state → IsStateKept limit link (link_loss_step state k why o).state
-kept-lost limit link state k why None kept = (Tells-loss Lines limit link [] tt k why state (at_key server_link k state.servers) kept).kept
-kept-lost limit link state k why (Some client) kept = kept-leaves limit link state k why kept
+kept-lost : (link : ℕ) (state : State) (k : ℕ) (why : Cause) (o : Option Client) → IsStateKept link state → IsStateKept link (link_loss_step state k why o).state
+kept-lost link state k why None kept = (Tells-loss Lines None link [] tt k why state (at_key server_link k state.servers) kept).kept
+kept-lost link state k why (Some client) kept = kept-leaves link state k why kept
 
 -- the state of which what is to be pushed is at a tick
 abbrev pub ticked : State → ℕ → State
 ticked state moment = record state { moment = moment }
 
-pub kept-ticked : (limit link : ℕ) (state : State) (moment : ℕ) → IsStateKept limit link state → IsStateKept limit link (ticked state moment)
-kept-ticked limit link state moment kept = record { most = kept.most; world = kept.world; told = kept.told; texts = kept.texts; first = kept.first }
+pub kept-ticked : (link : ℕ) (state : State) (moment : ℕ) → IsStateKept link state → IsStateKept link (ticked state moment)
+kept-ticked link state moment kept = record { most = kept.most; world = kept.world; told = kept.told; texts = kept.texts; first = kept.first }
 
 -- a client that came, where there are not too many
 abbrev pub arrived : State → ℕ → List ℕ → Bool → Stepped
@@ -139,54 +155,100 @@ arrived state k nonce b = cond b (put_step (record state {
 })) (reach_step (record state { used = max state.used k }) (Closes k cause.Surplus ∷ []))
 
 pub step_keeps : StepKeeps
-step_keeps limit link state (Start moment) kept = (Tells-start Lines limit link [] state moment tt kept).kept
-step_keeps limit link state (Tick moment) kept = (Tells-pushes Lines limit link [] (ticked state moment) tt (kept-ticked limit link state moment kept)).kept
-step_keeps limit link state (Arrives k nonce) kept = by (nat_lt (length state.clients) (client_limit state.options)) where
+step_keeps link state (Start moment) kept = (Tells-start Lines None link [] state moment tt kept).kept
+step_keeps link state (Tick moment) kept = (Tells-pushes Lines None link [] (ticked state moment) tt (kept-ticked link state moment kept)).kept
+step_keeps link state (Arrives k nonce) kept = by (nat_lt (length state.clients) (client_limit state.options)) where
   came : Client
   came = new_client (record { 0 = k }) nonce
 
-  by : (b : Bool) → IsStateKept limit link (arrived state k nonce b).state
+  by : (b : Bool) → IsStateKept link (arrived state k nonce b).state
   by true = record { most = kept.most; world = kept.world; told = kept.told; texts = kept.texts; first = first-push link came state.clients refl ∙ kept.first }
   by false = record { most = kept.most; world = kept.world; told = kept.told; texts = kept.texts; first = kept.first }
-step_keeps limit link state (LineCame k line) kept = kept-line limit link state k line kept
-step_keeps limit link state (Stands k) kept = (Tells-stands Lines limit link [] tt state k (at_key server_link k state.servers) kept).kept
-step_keeps limit link state (Ends k) kept = kept-lost limit link state k cause.Ended (at_key client_link k state.clients) kept
-step_keeps limit link state (Fails k) kept = kept-lost limit link state k cause.Failed (at_key client_link k state.clients) kept
-step_keeps limit link state (Breaks k) kept = kept-lost limit link state k cause.BadSocket (at_key client_link k state.clients) kept
-step_keeps limit link state ListenFails kept = kept
+step_keeps link state (LineCame k line) kept = kept-line link state k line kept
+step_keeps link state (Stands k) kept = (Tells-stands Lines None link [] tt state k (at_key server_link k state.servers) kept).kept
+step_keeps link state (Ends k) kept = kept-lost link state k cause.Ended (at_key client_link k state.clients) kept
+step_keeps link state (Fails k) kept = kept-lost link state k cause.Failed (at_key client_link k state.clients) kept
+step_keeps link state (Breaks k) kept = kept-lost link state k cause.BadSocket (at_key client_link k state.clients) kept
+step_keeps link state ListenFails kept = kept
+
+-- ---- a limit that was never changed after an event was not changed before it
+
+pub back-follows : (limit : Option ℕ) (link : ℕ) (state : State) (k : ℕ) (o : Outcome) → OutcomeUtf8 o → IsStateKept link state → IsLimited limit (outcome_step state k o).state.world → IsLimited limit state.world
+back-follows limit link state k outcome.Replied utf8 kept limited = limited
+back-follows limit link state k outcome.Silent utf8 kept limited = limited
+back-follows limit link state k (outcome.Input buffer text) utf8 kept limited = (Tells-runs Lines limit link [] state buffer (lines_of_text text) tt kept (parted_text text utf8)).back limited
+back-follows limit link state k (outcome.Leave why) utf8 kept limited = limited
+back-follows limit link state k outcome.NoMemory utf8 kept limited = limited
+
+pub back-replies : (limit : Option ℕ) (link : ℕ) (state : State) (line : List ℕ) (client : Client) (request : Request) → request_of client.escaped line ≡ Some request → IsStateKept link state
+    → IsLimited limit (reply_step state client request).state.world → IsLimited limit state.world
+back-replies limit link state line client request e kept limited =
+    let k = client_link client in
+    let answer = reply_of state.world state.options client request in
+    back-follows limit link (put state k answer.client) k answer.outcome (reply_text state client line request e) (kept-put link state k answer.client (reply_link state client line request e) kept) limited
+
+back-line : (limit : Option ℕ) (link : ℕ) (state : State) (k : ℕ) (line : List ℕ) → IsStateKept link state → IsLimited limit (step state (LineCame k line)).state.world → IsLimited limit state.world
+back-line limit link state k line kept limited = came (at_key client_link k state.clients) limited where
+  served : (client : Client) (o : Option Request) → request_of client.escaped line ≡ o → IsLimited limit (request_step state client o).state.world → IsLimited limit state.world
+  served client None e limited = limited
+  served client (Some request) e limited =
+      let tells = Tells-before Lines limit link [] state client request tt kept in
+      tells.back (back-replies limit link (before_reply state client request).state line client request e tells.kept (subst (λ (s : Stepped). IsLimited limit s.state.world) (asked_after state client request) limited))
+
+  came : (o : Option Client) → IsLimited limit (link_line_step state k line o).state.world → IsLimited limit state.world
+  came None limited = (Tells-line Lines limit link [] tt state k line (at_key server_link k state.servers) kept).back limited
+  came (Some client) limited = served client (request_of client.escaped line) refl limited
+
+back-lost : (limit : Option ℕ) (link : ℕ) (state : State) (k : ℕ) (why : Cause) (o : Option Client) → IsStateKept link state → IsLimited limit (link_loss_step state k why o).state.world → IsLimited limit state.world
+back-lost limit link state k why None kept limited = (Tells-loss Lines limit link [] tt k why state (at_key server_link k state.servers) kept).back limited
+back-lost limit link state k why (Some client) kept limited = limited
+
+pub step_back : (limit : Option ℕ) (link : ℕ) (state : State) (event : Event) → IsStateKept link state → IsLimited limit (step state event).state.world → IsLimited limit state.world
+step_back limit link state (Start moment) kept limited = (Tells-start Lines limit link [] state moment tt kept).back limited
+step_back limit link state (Tick moment) kept limited = limited
+step_back limit link state (Arrives k nonce) kept limited = by (nat_lt (length state.clients) (client_limit state.options)) limited where
+  by : (b : Bool) → IsLimited limit (arrived state k nonce b).state.world → IsLimited limit state.world
+  by true limited = limited
+  by false limited = limited
+step_back limit link state (LineCame k line) kept limited = back-line limit link state k line kept limited
+step_back limit link state (Stands k) kept limited = (Tells-stands Lines limit link [] tt state k (at_key server_link k state.servers) kept).back limited
+step_back limit link state (Ends k) kept limited = back-lost limit link state k cause.Ended (at_key client_link k state.clients) kept limited
+step_back limit link state (Fails k) kept limited = back-lost limit link state k cause.Failed (at_key client_link k state.clients) kept limited
+step_back limit link state (Breaks k) kept limited = back-lost limit link state k cause.BadSocket (at_key client_link k state.clients) kept limited
+step_back limit link state ListenFails kept limited = limited
 
 -- ---- whether a client followed before an event
 
-following-leaves : (link : ℕ) (state : State) (k : ℕ) → is_following (at_key client_link link (without client_link k state.clients)) ≡ true → is_following (client_on link state) ≡ true
-following-leaves link state k after = by (eqb link k) refl where
-  by : (b : Bool) → eqb link k ≡ b → is_following (client_on link state) ≡ true
+following-leaves : (limit : Option ℕ) (link : ℕ) (state : State) (k : ℕ) → is_following limit (at_key client_link link (without client_link k state.clients)) ≡ true → is_following limit (client_on link state) ≡ true
+following-leaves limit link state k after = by (eqb link k) refl where
+  by : (b : Bool) → eqb link k ≡ b → is_following limit (client_on link state) ≡ true
   by true e =
       let same : link ≡ k = grind (arith, nat_tests) in
       let gone : at_key client_link link (without client_link k state.clients) ≡ None = ap (λ n. at_key client_link n (without client_link k state.clients)) same ∙ at_key-filter_same client_link k state.clients in
-      absurd (false≢true (sym (ap is_following gone) ∙ after))
-  by false e = sym (ap is_following (at_key-without_other client_link k link state.clients (grind (arith, nat_tests)))) ∙ after
+      absurd (false≢true (sym (ap (is_following limit) gone) ∙ after))
+  by false e = sym (ap (is_following limit) (at_key-without_other client_link k link state.clients (grind (arith, nat_tests)))) ∙ after
 
-following-lost : (limit link : ℕ) (state : State) (k : ℕ) (why : Cause) (o : Option Client) → IsStateKept limit link state → is_following (client_on link (link_loss_step state k why o).state) ≡ true → is_following (client_on link state) ≡ true
+following-lost : (limit : Option ℕ) (link : ℕ) (state : State) (k : ℕ) (why : Cause) (o : Option Client) → IsStateKept link state → is_following limit (client_on link (link_loss_step state k why o).state) ≡ true → is_following limit (client_on link state) ≡ true
 following-lost limit link state k why None kept after = sym (Tells-loss Lines limit link [] tt k why state (at_key server_link k state.servers) kept).following ∙ after
-following-lost limit link state k why (Some client) kept after = following-leaves link state k after
+following-lost limit link state k why (Some client) kept after = following-leaves limit link state k after
 
-following-follows : (limit link : ℕ) (state : State) (k : ℕ) (o : Outcome) → OutcomeUtf8 o → IsStateKept limit link state → is_following (client_on link (outcome_step state k o).state) ≡ true → is_following (client_on link state) ≡ true
+following-follows : (limit : Option ℕ) (link : ℕ) (state : State) (k : ℕ) (o : Outcome) → OutcomeUtf8 o → IsStateKept link state → is_following limit (client_on link (outcome_step state k o).state) ≡ true → is_following limit (client_on link state) ≡ true
 following-follows limit link state k outcome.Replied utf8 kept after = after
 following-follows limit link state k outcome.Silent utf8 kept after = after
 following-follows limit link state k (outcome.Input buffer text) utf8 kept after =
     sym (Tells-runs Lines limit link [] state buffer (lines_of_text text) tt kept (parted_text text utf8)).following ∙ after
-following-follows limit link state k (outcome.Leave why) utf8 kept after = following-leaves link state k after
+following-follows limit link state k (outcome.Leave why) utf8 kept after = following-leaves limit link state k after
 following-follows limit link state k outcome.NoMemory utf8 kept after = after
 
 -- a request of another link
-following-answers : (limit link : ℕ) (state : State) (k : ℕ) (answer : Answer) → client_link answer.client ≡ k → link ≢ k → OutcomeUtf8 answer.outcome → IsStateKept limit link state
-    → is_following (client_on link (answer_step state k answer).state) ≡ true → is_following (client_on link state) ≡ true
+following-answers : (limit : Option ℕ) (link : ℕ) (state : State) (k : ℕ) (answer : Answer) → client_link answer.client ≡ k → link ≢ k → OutcomeUtf8 answer.outcome → IsStateKept link state
+    → is_following limit (client_on link (answer_step state k answer).state) ≡ true → is_following limit (client_on link state) ≡ true
 following-answers limit link state k answer here other utf8 kept after =
-    sym (ap is_following (at_key-put_other client_link k link answer.client state.clients here other))
-    ∙ following-follows limit link (put state k answer.client) k answer.outcome utf8 (kept-put limit link state k answer.client here kept) after
+    sym (ap (is_following limit) (at_key-put_other client_link k link answer.client state.clients here other))
+    ∙ following-follows limit link (put state k answer.client) k answer.outcome utf8 (kept-put link state k answer.client here kept) after
 
-following-line : (limit link : ℕ) (state : State) (k : ℕ) (line : List ℕ) → IsStateKept limit link state → asked_in link state (LineCame k line) ≡ []
-    → is_following (client_on link (step state (LineCame k line)).state) ≡ true → is_following (client_on link state) ≡ true
+following-line : (limit : Option ℕ) (link : ℕ) (state : State) (k : ℕ) (line : List ℕ) → IsStateKept link state → asked_in link state (LineCame k line) ≡ []
+    → is_following limit (client_on link (step state (LineCame k line)).state) ≡ true → is_following limit (client_on link state) ≡ true
 following-line limit link state k line kept none after = came (at_key client_link k state.clients) refl after where
   other : (client : Client) (request : Request) → at_key client_link k state.clients ≡ Some client → request_of client.escaped line ≡ Some request → link ≢ client_link client
   other client request at e same =
@@ -196,30 +258,30 @@ following-line limit link state k line kept none after = came (at_key client_lin
       cc
 
   served : (client : Client) (o : Option Request) → at_key client_link k state.clients ≡ Some client → request_of client.escaped line ≡ o
-      → is_following (client_on link (request_step state client o).state) ≡ true → is_following (client_on link state) ≡ true
+      → is_following limit (client_on link (request_step state client o).state) ≡ true → is_following limit (client_on link state) ≡ true
   served client None at e after = after
   served client (Some request) at e after =
       let next = (before_reply state client request).state in
       let tells = Tells-before Lines limit link [] state client request tt kept in
       sym tells.following
       ∙ following-answers limit link next (client_link client) (reply_of next.world next.options client request) (reply_link next client line request e) (other client request at e) (reply_text next client line request e) tells.kept
-      (subst (λ (s : Stepped). is_following (client_on link s.state) ≡ true) (asked_after state client request) after)
+      (subst (λ (s : Stepped). is_following limit (client_on link s.state) ≡ true) (asked_after state client request) after)
 
-  came : (o : Option Client) → at_key client_link k state.clients ≡ o → is_following (client_on link (link_line_step state k line o).state) ≡ true → is_following (client_on link state) ≡ true
+  came : (o : Option Client) → at_key client_link k state.clients ≡ o → is_following limit (client_on link (link_line_step state k line o).state) ≡ true → is_following limit (client_on link state) ≡ true
   came None at after = sym (Tells-line Lines limit link [] tt state k line (at_key server_link k state.servers) kept).following ∙ after
   came (Some client) at after = served client (request_of client.escaped line) at refl after
 
 -- A client that asked nothing at an event, and follows all events after it, did so before.
-pub followed : (limit link : ℕ) (state : State) (event : Event) → IsStateKept limit link state → asked_in link state event ≡ [] → is_following (client_on link (step state event).state) ≡ true
-    → is_following (client_on link state) ≡ true
+pub followed : (limit : Option ℕ) (link : ℕ) (state : State) (event : Event) → IsStateKept link state → asked_in link state event ≡ [] → is_following limit (client_on link (step state event).state) ≡ true
+    → is_following limit (client_on link state) ≡ true
 followed limit link state (Start moment) kept none after = sym (Tells-start Lines limit link [] state moment tt kept).following ∙ after
 followed limit link state (Tick moment) kept none after = after
 followed limit link state (Arrives k nonce) kept none after = by (nat_lt (length state.clients) (client_limit state.options)) after where
   came : Client
   came = new_client (record { 0 = k }) nonce
 
-  by : (b : Bool) → is_following (client_on link (arrived state k nonce b).state) ≡ true → is_following (client_on link state) ≡ true
-  by true after = sym (following-push link came state.clients refl) ∙ after
+  by : (b : Bool) → is_following limit (client_on link (arrived state k nonce b).state) ≡ true → is_following limit (client_on link state) ≡ true
+  by true after = sym (following-push limit link came state.clients refl) ∙ after
   by false after = after
 followed limit link state (LineCame k line) kept none after = following-line limit link state k line kept none after
 followed limit link state (Stands k) kept none after = sym (Tells-stands Lines limit link [] tt state k (at_key server_link k state.servers) kept).following ∙ after

@@ -13,6 +13,7 @@ use Rattle.wc_buffers.specs.Kept.{IsBuffer}
 use Rattle.wc_model.specs.declared.notice.EventKind.{EventKind}
 use Rattle.wc_model.specs.declared.notice.EventKind.TheVariants as kind
 use Rattle.wc_model.specs.declared.notice.Notice.{Notice}
+use Rattle.wc_model.specs.declared.notice.Trim.{Trim}
 use Rattle.wc_model.specs.World.{World, lines_at}
 use Rattle.wc_lines.specs.Ring.{newest}
 use Rattle.wc_objects.specs.declared.object.Object.{Object}
@@ -22,20 +23,20 @@ use Rattle.wc_objects.specs.Spelling.{message_bytes}
 use Rattle.wc_objects.specs.Within.{ObjectWithin}
 use Rattle.wc_keys.proofs.EventIds.{id_text}
 use Rattle.wc_events.specs.LineObjects.{added_objects}
-use Rattle.wc_events.specs.BufferObjects.{id_of, objects_of, event_objects, event_of, opened_objects, renamed_objects, title_objects, vars_objects}
+use Rattle.wc_events.specs.BufferObjects.{id_of, objects_of, event_objects, event_of, opened_objects, renamed_objects, title_objects, vars_objects, trim_objects, trimmed_objects}
 use Rattle.wc_events.proofs.Formed.{added_formed}
-use Rattle.wc_events.proofs.EventsFormed.{opened_formed, placed_formed, renamed_formed, title_formed, vars_formed, named_formed}
+use Rattle.wc_events.proofs.EventsFormed.{opened_formed, placed_formed, renamed_formed, title_formed, vars_formed, named_formed, trims_formed}
 use Rattle.wc_session.specs.Event.{if_fits, event_messages}
 use Rattle.wc_session.specs.Sending.{fits, fitting}
 use Rattle.wc_session.proofs.SendingLemmas.{fits_within}
 use Rattle.wc_mirror_laws.specs.Printed.{IsPrinted}
 use Rattle.wc_mirror_laws.specs.Worlds.{IsBufferKept, IsWorldKept}
 use Rattle.wc_mirror_laws.specs.Bytes.{IsSpelt}
-use Rattle.wc_mirror_laws.proofs.BufferSizes.{opened_size, placed_size, renamed_size, title_size, vars_size}
+use Rattle.wc_mirror_laws.proofs.BufferSizes.{opened_size, placed_size, renamed_size, title_size, vars_size, trim_size}
 use Rattle.wc_mirror_laws.proofs.RowLemmas.{row_has}
-use Rattle.wc_mirror_laws.proofs.NoticeLemmas.{IsTelling}
+use Rattle.wc_mirror_laws.proofs.NoticeLemmas.{IsTrimTold, IsTelling}
 use Rattle.wc_mirror_laws.proofs.SizeLemmas.{added_size, named_size}
-use Rattle.wc_mirror_laws.proofs.WithinLemmas.{event_within, opened_within, placed_within, renamed_within, title_within, vars_within, named_within}
+use Rattle.wc_mirror_laws.proofs.WithinLemmas.{event_within, opened_within, placed_within, renamed_within, title_within, vars_within, named_within, trim_within}
 
 -- ---- messages that keep the rules
 
@@ -77,6 +78,10 @@ on_newest P buffer [] all each = tt
 on_newest P buffer (line ∷ []) all each = each line all.0
 on_newest P buffer (line ∷ next ∷ lines) all each = on_newest P buffer (next ∷ lines) all.1 each
 
+on_trims : (P : List Object → Type 0) (trims : List Trim) → AllByRecursion IsTrimTold trims → ((trim : Trim) → IsTrimTold trim → P (trim_objects trim)) → OnObjects P (trimmed_objects trims)
+on_trims P [] all each = tt
+on_trims P (trim ∷ trims) all each = each trim all.0
+
 entry_kept : (limit : ℕ) (v : World) (n : Notice) (e : BufferEntry) → IsWorldKept limit v → entry_of n.buffer v.groups ≡ Some e → IsBufferKept v.next e
 entry_kept limit v n e is at = row_has (IsBufferKept v.next) handle_of n.buffer.0 (rows v.groups) e at is.each
 
@@ -105,6 +110,8 @@ objects_good limit v kind.LineDataChanged n is tells = tt
 objects_good limit v kind.Nicklist n is tells = tt
 objects_good limit v kind.NicklistDiff n is tells = tt
 objects_good limit v kind.NickTouched n is tells = tt
+objects_good limit v kind.LimitSet n is tells = tt
+objects_good limit v kind.LinesTrimmed n is tells = on_trims AreGood n.trims tells.trims (λ trim told. record { formed = trims_formed trim; within = trim_within trim told })
 
 -- the event of a notice keeps the rules
 pub event_spelt : (limit : ℕ) (v : World) (n : Notice) → IsWorldKept limit v → IsTelling n → AllSpelt (event_messages v n)
@@ -141,6 +148,8 @@ objects_short limit v kind.LineDataChanged n is tells = tt
 objects_short limit v kind.Nicklist n is tells = tt
 objects_short limit v kind.NicklistDiff n is tells = tt
 objects_short limit v kind.NickTouched n is tells = tt
+objects_short limit v kind.LimitSet n is tells = tt
+objects_short limit v kind.LinesTrimmed n is tells = on_trims (IsShort kind.LinesTrimmed) n.trims tells.trims (λ trim told. trim_size (id_of kind.LinesTrimmed) trim (omega arith) told)
 
 -- a message that is short enough is sent
 pub whole_message : (m : WireMessage) → length (message_bytes m.id m.objects) ≤ 2 ^ 31 - 1 → fitting m ≡ m ∷ []

@@ -12,6 +12,7 @@ use Rattle.wc_nickdiff.specs.declared.diff_item.Mark.{Mark}
 use Rattle.wc_nickdiff.specs.declared.diff_item.Mark.TheVariants as mark
 use Rattle.wc_buffers.specs.declared.row.BufferEntry.{BufferEntry}
 use Rattle.wc_model.specs.declared.notice.Notice.{Notice}
+use Rattle.wc_model.specs.declared.notice.Trim.{Trim}
 use Rattle.wc_objects.specs.declared.object.Object.{Object}
 use Rattle.wc_objects.specs.declared.object.Object.TheVariants as o
 use Rattle.wc_objects.specs.declared.object.Object.TheViews.{out-roll-Object, out-roll-Hda}
@@ -19,11 +20,11 @@ use Rattle.wc_objects.specs.declared.object.Hda.{Hda, roll-Hda}
 use Rattle.wc_objects.specs.declared.object.HdaItem.{HdaItem, roll-HdaItem}
 use Rattle.wc_objects.specs.Within.{ValueWithin, ItemWithin, HdaWithin, ObjectWithin}
 use Rattle.wc_events.specs.LineObjects.{truth, count, moment, line_keys, line_values, added_item, added_objects}
-use Rattle.wc_events.specs.BufferObjects.{about, opened_keys, opened_values, opened_objects, placed_keys, placed_values, placed_objects, renamed_keys, renamed_values, renamed_objects, title_keys, title_values, title_objects, vars_keys, vars_values, vars_objects, named_keys, named_values, named_objects}
+use Rattle.wc_events.specs.BufferObjects.{about, opened_keys, opened_values, opened_objects, placed_keys, placed_values, placed_objects, renamed_keys, renamed_values, renamed_objects, title_keys, title_values, title_objects, vars_keys, vars_values, vars_objects, named_keys, named_values, named_objects, trim_keys, trim_values, trim_objects}
 use Rattle.wc_events.specs.NickObjects.{nick_path, nick_keys, nick_values, nick_item, mark_code, diff_item, nick_objects}
 use Rattle.wc_hdata.proofs.ValuesWithin.{moment_within, count_within, truth_within, flag_within, value_tim, value_chr, value_int, value_ptr, value_str, value_texts, value_table}
 use Rattle.wc_mirror_laws.specs.Printed.{IsPrinted}
-use Rattle.wc_mirror_laws.proofs.NoticeLemmas.{IsTelling}
+use Rattle.wc_mirror_laws.proofs.NoticeLemmas.{IsTrimTold, IsTelling}
 
 -- ---- objects of items
 
@@ -135,6 +136,13 @@ named_all n = (value_int _ (count_within n.number), (value_str _, tt))
 
 pub named_within : (n : Notice) → IsTelling n → AllByRecursion ObjectWithin (named_objects n)
 named_within n is = about_within named_keys n.buffer (named_values n) is.buffer (named_all n)
+
+trim_all : (trim : Trim) → IsTrimTold trim → AllByRecursion ValueWithin (trim_values trim)
+unfolding trim_values
+trim_all trim told = (value_ptr _ told.buffer, (value_int _ (count_within trim.count), tt))
+
+pub trim_within : (trim : Trim) → IsTrimTold trim → AllByRecursion ObjectWithin (trim_objects trim)
+trim_within trim told = about_within trim_keys trim.buffer (trim_values trim) told.buffer (trim_all trim told)
 
 -- ---- nicklists
 

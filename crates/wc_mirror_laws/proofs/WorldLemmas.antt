@@ -1,5 +1,5 @@
 -- What always holds of the world holds still after a change.
-use Rattle.std.proofs.Common.{◌≡◌, ℕ, ◌+◌, ◌-◌, ◌<◌, ◌≤◌, ◌^◌, Bool, true, false, cond, ◌&&◌, eqb, ltb, List, [], ◌∷◌, ◌++◌, length, map, All, Option, Some, None, unwrap_or, refl, sym, ap, subst, ◌∙◌, arith, eq-eqb, eqb-true, IsUtf8, map-id}
+use Rattle.std.proofs.Common.{◌≡◌, ℕ, ◌+◌, ◌-◌, ◌<◌, ◌≤◌, ◌^◌, Bool, true, false, cond, ◌&&◌, eqb, ltb, List, [], ◌∷◌, ◌++◌, length, map, All, Option, Some, None, option_map, unwrap_or, refl, sym, ap, subst, ◌∙◌, arith, drop, eq-eqb, eqb-true, IsUtf8, map-id}
 use Rattle.std.specs.Int.{w8}
 use Rattle.std.specs.Int.RustNames.{FitsSigned}
 use Rattle.std.specs.List.{AllByRecursion}
@@ -35,16 +35,17 @@ use Rattle.wc_buffers.proofs.RefusalLemmas.{there_good, move_good, merge_good, u
 use Rattle.wc_buffers.proofs.Fits.{or_none, opened_fits, hidden_fits, short_name_fits, title_fits, full_name_fits, var_fits, removed_fits, cut_short, cut_is_utf8}
 use Rattle.wc_world.proofs.GroupRows.{some_row, in_rows, has-move, has-merge, has-unmerge, has-update, has-take_out, merged_apart}
 use Rattle.wc_world.proofs.First.{core_text}
+use Rattle.wc_world.proofs.FlipsDone.{find_mapped}
 use Rattle.wc_world.proofs.HeldLemmas.{tied}
 use Rattle.wc_world.proofs.NicksDone.{may_add, may_edit}
 use Rattle.wc_model.specs.declared.change.LineSpec.{LineSpec}
 use Rattle.wc_model.specs.declared.change.What.{What}
-use Rattle.wc_model.specs.declared.change.What.TheVariants.{Add, Close, MoveTo, MergeInto, Unmerge, Hide, Unhide, Rename, ShortName, Title, SetVar, RemoveVar, Print, Clear, Flips, AddGroup, AddNick, RemoveGroup, RemoveNick, ChangeGroup, ChangeNick}
+use Rattle.wc_model.specs.declared.change.What.TheVariants.{Add, Close, MoveTo, MergeInto, Unmerge, Hide, Unhide, Rename, ShortName, Title, SetVar, RemoveVar, Print, Clear, Flips, AddGroup, AddNick, RemoveGroup, RemoveNick, ChangeGroup, ChangeNick, Limit}
 use Rattle.wc_model.specs.declared.refused.ChangeRefused.{ChangeRefused}
 use Rattle.wc_model.specs.declared.refused.ChangeRefused.TheVariants as refused
 use Rattle.wc_model.specs.World.{World, core_row, first_world, lines_at, printed_at, rows_at, row_count, row_limit, last_handle}
 use Rattle.wc_model.specs.LineCuts.{line_of}
-use Rattle.wc_model.specs.Apply.{refusal_of, after_of, of_buffers, or_else as or_refused, refusal_of_handles, with_groups, with_lines, flip_all, with_flips, row_of as new_row, adds_row, removes_row, changes_row, with_rows, item_with, with_row, without_row, handle_in, with_changed_row}
+use Rattle.wc_model.specs.Apply.{refusal_of, after_of, of_buffers, or_else as or_refused, refusal_of_handles, with_groups, with_lines, flip_all, with_flips, row_of as new_row, adds_row, removes_row, changes_row, with_rows, item_with, with_row, without_row, handle_in, with_changed_row, with_limit}
 use Rattle.wc_model.specs.Touches.{told_after}
 use Rattle.wc_board.specs.Told.{Told}
 use Rattle.wc_mirror_laws.specs.Changes.{IsTold}
@@ -118,6 +119,9 @@ rewritten limit w h F is there same own mixed fits short =
     (λ q. has-update handle_of h.0 F (λ x. ap (λ (k : Handle). k.0) (same x)) q w.groups)
 
 -- ---- lines
+
+abbrev no_line_list : List Line
+no_line_list = []
 
 turn : (a b : ℕ) → eqb a b ≡ eqb b a
 turn a b = by_bool (eqb a b) _ (λ t. t ∙ sym (eq-eqb b a (sym (eqb-true a b t)))) (λ t. t ∙ sym (let z : eqb b a ≡ false = grind (arith, nat_tests) in z))
@@ -209,6 +213,35 @@ print_kept limit w h spec is there room tags level =
     (subst (λ n. length ms ≤ n) is.same (last_within w.limit all))
     (All-drop IsPrinted (length all - w.limit) all (All-push IsPrinted (lines_at w h.0) (line_of (printed_at w h.0) w.next spec) (is.printed h.0) (line_printed (printed_at w h.0) w.next spec (omega arith) tags level)))
     (there_or_none w limit h.0 ms is there) (lists_kept w.next (w.next + 2) w.groups w.groups w.nicks (omega arith) (λ q. refl) is.nicks) is.counted
+
+-- ---- another limit
+
+none_last : (limit : ℕ) → last_of limit no_line_list ≡ []
+none_last limit = let e : 0 - limit ≡ 0 = omega arith in ap (λ n. drop n no_line_list) e
+
+last_of_none : (o : Option (List Line)) (limit : ℕ) → unwrap_or (option_map (last_of limit) o) [] ≡ last_of limit (unwrap_or o [])
+last_of_none None limit = sym (none_last limit)
+last_of_none (Some lines) limit = refl
+
+pub limited_at : (limit : ℕ) (w : World) (q : ℕ) → lines_at (with_limit limit w) q ≡ last_of limit (lines_at w q)
+limited_at limit w q =
+    ap (λ o. unwrap_or o [])
+    (get-from_entries nat_cmp_total (map (λ (e : ℕ × List Line). (e.0, last_of limit e.1)) (entries w.lines)) q ∙ find_mapped (last_of limit) q (entries w.lines) ∙ ap (option_map (last_of limit)) (sym (get-entries w.lines q)))
+    ∙ last_of_none (get w.lines q) limit
+
+limit_kept : (old limit : ℕ) (w : World) → IsWorldKept old w → IsWorldKept limit (with_limit limit w)
+limit_kept old limit w is = record {
+  same = refl;
+  started = is.started;
+  ended = is.ended;
+  groups = is.groups;
+  each = is.each;
+  within = λ q. subst (λ ls. length ls ≤ limit) (sym (limited_at limit w q)) (last_within limit (lines_at w q));
+  printed = λ q. subst (All IsPrinted) (sym (limited_at limit w q)) (All-drop IsPrinted (length (lines_at w q) - limit) (lines_at w q) (is.printed q));
+  none = λ q lacks. limited_at limit w q ∙ ap (last_of limit) (is.none q lacks) ∙ none_last limit;
+  nicks = is.nicks;
+  counted = is.counted;
+}
 
 -- ---- a new buffer
 
@@ -302,7 +335,12 @@ row_changed limit w h g item is utf8 good =
 
 -- ---- any change
 
-pub after_kept : (limit : ℕ) (w : World) (h : Handle) (a : What) → IsWorldKept limit w → IsTold a → refusal_of w h a ≡ None → IsWorldKept limit (after_of w h a)
+-- the limit of lines after a change
+abbrev pub limit_after : ℕ → What → ℕ
+limit_after limit (Limit other) = other
+limit_after limit _ = limit
+
+pub after_kept : (limit : ℕ) (w : World) (h : Handle) (a : What) → IsWorldKept limit w → IsTold a → refusal_of w h a ≡ None → IsWorldKept (limit_after limit a) (after_of w h a)
 unfolding refusal_of after_of
 after_kept limit w h (Add spec) is told good =
     let both = both_accepted _ _ good in
@@ -350,6 +388,12 @@ after_kept limit w h (RemoveGroup name) is told good = row_removed limit w h tru
 after_kept limit w h (RemoveNick name) is told good = row_removed limit w h false name is good
 after_kept limit w h (ChangeGroup item) is told good = row_changed limit w h true item is told good
 after_kept limit w h (ChangeNick item) is told good = row_changed limit w h false item is told good
+after_kept limit w h (Limit other) is told good = limit_kept limit other w is
+
+-- a limit of lines stays below the greatest
+pub limit_most : (limit : ℕ) (a : What) → IsTold a → limit ≤ 4096 → limit_after limit a ≤ 4096
+limit_most limit (Limit other) told most = told.1
+limit_most limit _ told most = most
 
 same_kept : (w : World) (gs : EntryGroups) (lists : Told) → ((q : ℕ) → has handle_of q gs ≡ has handle_of q w.groups) → AreListsKept w.next w.groups lists → AreListsKept w.next gs lists
 same_kept w gs lists same kept = lists_kept w.next w.next w.groups gs lists (omega arith) same kept
@@ -385,11 +429,9 @@ told_kept limit w h (RemoveGroup name) lists is told good kept = kept
 told_kept limit w h (RemoveNick name) lists is told good kept = kept
 told_kept limit w h (ChangeGroup item) lists is told good kept = kept
 told_kept limit w h (ChangeNick item) lists is told good kept = kept
+told_kept limit w h (Limit other) lists is told good kept = kept
 
 -- ---- the start
-
-abbrev no_line_list : List Line
-no_line_list = []
 
 no_lines : (limit q : ℕ) → lines_at (first_world limit) q ≡ []
 no_lines limit q = ap (λ o. unwrap_or o []) (get-insert nat_cmp_total empty 1 [] q ∙ ap (cond (eq_by_cmp nat_cmp q 1) (Some [])) (get-empty nat_cmp q)) ∙ by (eq_by_cmp nat_cmp q 1) where

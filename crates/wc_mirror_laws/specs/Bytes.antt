@@ -1,5 +1,5 @@
 -- What a client makes of all bytes that it was sent.
-use Rattle.std.specs.Prelude.{◌≡◌, ℕ, ◌≤◌, Bool, List}
+use Rattle.std.specs.Prelude.{◌≡◌, ℕ, ◌≤◌, Bool, List, Option}
 use Rattle.std.specs.List.{AllByRecursion, flat_map}
 use Rattle.std.specs.Str.{IsUtf8}
 use Rattle.wc_objects.specs.declared.object.WireMessage.{WireMessage}
@@ -12,7 +12,7 @@ use Rattle.wc_core.specs.State.{State}
 use Rattle.wc_core.specs.Step.{run}
 use Rattle.wc_core.specs.Served.{messages_to, sent_to}
 use Rattle.wc_mirror_laws.specs.Held.{HeldPart, Lines, Buffers, Nicks, nothing, Has}
-use Rattle.wc_mirror_laws.specs.Settled.{SettledBy}
+use Rattle.wc_mirror_laws.specs.Settled.{SettledBy, IsLimited}
 use Rattle.wc_mirror_laws.specs.Mirrors.{fold_all, beginning, IsShortLine}
 use Rattle.wc_eval.specs.Verdicts.{Oracle}
 
@@ -27,22 +27,22 @@ pub record Spell (bytes : List ℕ) (messages : List WireMessage) : Type 0 where
   pub whole : bytes ≡ flat_map (λ m. spelling m) messages
 
 -- The bytes spell messages, and a client that takes them has this part of this state.
-pub record ShowsPart (which : HeldPart) (limit : ℕ) (id bytes : List ℕ) (state : State) :
+pub record ShowsPart (which : HeldPart) (limit : Option ℕ) (id bytes : List ℕ) (state : State) :
     Type 0 where
   pub messages : List WireMessage
   pub spell : Spell bytes messages
   pub has : Has which (fold_all which limit id (nothing which) messages) state
 
 -- it has the lines of each buffer
-abbrev pub Shows : ℕ → List ℕ → List ℕ → State → Type 0
+abbrev pub Shows : Option ℕ → List ℕ → List ℕ → State → Type 0
 Shows limit id bytes state = ShowsPart Lines limit id bytes state
 
 -- it has the buffers in their groups
-abbrev pub ShowsBuffers : ℕ → List ℕ → List ℕ → State → Type 0
+abbrev pub ShowsBuffers : Option ℕ → List ℕ → List ℕ → State → Type 0
 ShowsBuffers limit id bytes state = ShowsPart Buffers limit id bytes state
 
 -- it has the nicklists of all buffers, as they were told
-abbrev pub ShowsNicks : ℕ → List ℕ → List ℕ → State → Type 0
+abbrev pub ShowsNicks : Option ℕ → List ℕ → List ℕ → State → Type 0
 ShowsNicks limit id bytes state = ShowsPart Nicks limit id bytes state
 
 -- Bytes spell messages in one way at most.
@@ -51,23 +51,24 @@ SpellOnce = (bytes : List ℕ) (a b : List WireMessage) → Spell bytes a → Sp
 
 -- What is sent to a link spells the messages for it.
 abbrev pub RunSpells : Type 0
-RunSpells = (oracle : Oracle) (options : OptionsValue) (limit : ℕ)
+RunSpells = (oracle : Oracle) (options : OptionsValue) (lines : ℕ)
     (commands : List (List ℕ)) (connects : Bool)
-    (events : List Event) (link : ℕ) → limit ≤ 4096 → AllByRecursion IsUtf8 commands
-    → Spell (sent_to link (run (beginning oracle options limit commands connects) events).acts)
-    (messages_to link (run (beginning oracle options limit commands connects) events).acts)
+    (events : List Event) (link : ℕ) → lines ≤ 4096 → AllByRecursion IsUtf8 commands
+    → Spell (sent_to link (run (beginning oracle options lines commands connects) events).acts)
+    (messages_to link (run (beginning oracle options lines commands connects) events).acts)
 
 -- Whoever settled by the dump of a part has exactly this part of the state, by all bytes that it
 -- was sent.
 abbrev pub PartShows : HeldPart → Type 0
-PartShows which = (oracle : Oracle) (options : OptionsValue) (limit : ℕ)
+PartShows which = (limit : Option ℕ) (oracle : Oracle) (options : OptionsValue) (lines : ℕ)
     (commands : List (List ℕ)) (connects : Bool)
     (events : List Event) (link : ℕ) (id : List ℕ)
-    → limit ≤ 4096 → AllByRecursion IsUtf8 commands → AllByRecursion IsShortLine events →
-    SettledBy which link id (beginning oracle options limit commands connects) events
+    → lines ≤ 4096 → AllByRecursion IsUtf8 commands → AllByRecursion IsShortLine events →
+    SettledBy limit which link id (beginning oracle options lines commands connects) events
+    → IsLimited limit (run (beginning oracle options lines commands connects) events).state.world
     → ShowsPart which limit id
-    (sent_to link (run (beginning oracle options limit commands connects) events).acts)
-    (run (beginning oracle options limit commands connects) events).state
+    (sent_to link (run (beginning oracle options lines commands connects) events).acts)
+    (run (beginning oracle options lines commands connects) events).state
 
 -- the lines that each buffer holds
 abbrev pub BytesShow : Type 0

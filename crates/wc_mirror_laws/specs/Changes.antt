@@ -1,5 +1,5 @@
 -- The changes that the laws speak of.
-use Rattle.std.specs.Prelude.{◌≡◌, [], All}
+use Rattle.std.specs.Prelude.{◌≡◌, ◌≤◌, [], All}
 use Rattle.std.specs.Int.{w8}
 use Rattle.std.specs.Int.RustNames.{FitsSigned}
 use Rattle.std.specs.Str.{IsUtf8}
@@ -9,9 +9,10 @@ use Rattle.wc_model.specs.declared.change.What.TheVariants.{Add, Close, MoveTo, 
 use Rattle.wc_model.specs.declared.change.What.TheVariants.{Hide, Unhide, Rename, ShortName, Title}
 use Rattle.wc_model.specs.declared.change.What.TheVariants.{SetVar, RemoveVar, Print, Clear, Flips}
 use Rattle.wc_model.specs.declared.change.What.TheVariants.{AddGroup, AddNick, RemoveGroup}
-use Rattle.wc_model.specs.declared.change.What.TheVariants.{RemoveNick, ChangeGroup, ChangeNick}
+use Rattle.wc_model.specs.declared.change.What.TheVariants.{RemoveNick, ChangeGroup, ChangeNick, Limit}
 
--- Texts that are kept whole are text, a line has a level of 8 bits, and no flag of a line is set.
+-- Texts that are kept whole are text, a line has a level of 8 bits, no flag of a line is set, and a limit is
+-- one that a world may have.
 abbrev pub IsTold : What → Type 0
 IsTold (Add spec) = IsUtf8 spec.full_name × IsUtf8 spec.short_name × IsUtf8 spec.title × All IsText spec.vars
 IsTold Close = Unit {0}
@@ -34,3 +35,4 @@ IsTold (RemoveGroup name) = Unit {0}
 IsTold (RemoveNick name) = Unit {0}
 IsTold (ChangeGroup item) = IsUtf8 item.name
 IsTold (ChangeNick item) = IsUtf8 item.name
+IsTold (Limit limit) = (1 ≤ limit) × (limit ≤ 4096)

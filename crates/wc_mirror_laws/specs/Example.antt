@@ -1,5 +1,5 @@
 -- A client that settles by three lines.
-use Rattle.std.specs.Prelude.{ℕ, List, [], ◌∷◌, ◌++◌, codes}
+use Rattle.std.specs.Prelude.{ℕ, List, [], ◌∷◌, ◌++◌, Option, Some, None, codes}
 use Rattle.wc_options.specs.Options.{OptionsValue, fresh, with_value}
 use Rattle.wc_core.specs.Events.{Event, Arrives, Line}
 use Rattle.wc_core.specs.State.{first_state}
@@ -9,8 +9,10 @@ use Rattle.wc_eval.specs.Verdicts.{Oracle}
 abbrev pub init_line : List ℕ
 init_line = codes "init password=x"
 
-abbrev pub sync_line : List ℕ
-sync_line = codes "sync"
+-- one that keeps no limit of lines of its own asks for the events of lines that went
+abbrev pub sync_line : Option ℕ → List ℕ
+sync_line None = codes "sync * buffers,buffer,nicklist,trims"
+sync_line (Some limit) = codes "sync"
 
 abbrev pub dump_line : List ℕ
 dump_line = codes "(l) hdata buffer:gui_buffers(*)/own_lines/first_line(*)/data "
@@ -30,23 +32,23 @@ abbrev pub only_password : OptionsValue
 only_password = with_value fresh (codes "relay.network.password") (codes "x")
 
 -- a client logs in, asks for all events and says this line
-abbrev pub three_lines : List ℕ → List Event
-three_lines line = Arrives 1 [] ∷ Line 1 init_line ∷ Line 1 sync_line ∷ Line 1 line ∷ []
+abbrev pub three_lines : Option ℕ → List ℕ → List Event
+three_lines limit line = Arrives 1 [] ∷ Line 1 init_line ∷ Line 1 (sync_line limit) ∷ Line 1 line ∷ []
 
 -- whoever takes the line dump by it has settled
 abbrev pub ThreeLinesSettle : Type 0
-ThreeLinesSettle = (oracle : Oracle) (limit : ℕ) → Settled 1 (codes "l")
-    (first_state oracle only_password limit [])
-    (three_lines dump_line)
+ThreeLinesSettle = (limit : Option ℕ) (oracle : Oracle) (lines : ℕ) →
+    Settled limit 1 (codes "l") (first_state oracle only_password lines [])
+    (three_lines limit dump_line)
 
 -- and so has whoever takes the buffer dump
 abbrev pub ThreeLinesSettleBuffers : Type 0
-ThreeLinesSettleBuffers = (oracle : Oracle) (limit : ℕ) →
-    SettledBuffers 1 (codes "b") (first_state oracle only_password limit [])
-    (three_lines buffers_line)
+ThreeLinesSettleBuffers = (limit : Option ℕ) (oracle : Oracle) (lines : ℕ) →
+    SettledBuffers limit 1 (codes "b") (first_state oracle only_password lines [])
+    (three_lines limit buffers_line)
 
 -- and whoever takes the nicklists of all buffers
 abbrev pub ThreeLinesSettleNicks : Type 0
-ThreeLinesSettleNicks = (oracle : Oracle) (limit : ℕ) →
-    SettledNicks 1 (codes "n") (first_state oracle only_password limit [])
-    (three_lines nicks_line)
+ThreeLinesSettleNicks = (limit : Option ℕ) (oracle : Oracle) (lines : ℕ) →
+    SettledNicks limit 1 (codes "n") (first_state oracle only_password lines [])
+    (three_lines limit nicks_line)

@@ -58,8 +58,8 @@ fold_unrefused id (Ok part) message = fold_nicks id part message
 fold_unrefused id (Err place) message = if bytes_eq message.id id then fold_nicks id None message
     else Err place
 
--- what it has after a message, where it keeps at most so many lines of a buffer
-abbrev pub fold_one : (which : HeldPart) → ℕ → List ℕ → HeldOf which → WireMessage → HeldOf which
+-- what it has after a message, where it keeps at most so many lines of a buffer, or no limit of its own
+abbrev pub fold_one : (which : HeldPart) → Option ℕ → List ℕ → HeldOf which → WireMessage → HeldOf which
 fold_one Lines limit id held message = fold_lines limit id held message
 fold_one Buffers limit id held message = fold_buffers id held message
 fold_one Nicks limit id held message = record {

@@ -12,7 +12,7 @@ use Rattle.wc_mirror_laws.specs.Nicks.{AreListsKept}
 use Rattle.wc_mirror_laws.specs.Worlds.{IsWorldKept}
 
 abbrev pub asks_some : SyncSet → Bool
-asks_some set = set.buffers || (set.upgrade || (set.buffer || set.nicklist))
+asks_some set = set.buffers || (set.upgrade || (set.buffer || (set.nicklist || set.trims)))
 
 abbrev pub has_sets : List BufferSet → Bool
 has_sets [] = false
@@ -34,9 +34,9 @@ is_first_alone link [] = true
 is_first_alone link (client ∷ clients) = if client_link client == link then is_quiet link clients
     else is_first_alone link clients
 
-pub record IsStateKept (limit link : ℕ) (state : State) : Type 0 where
-  pub most : limit ≤ 4096
-  pub world : IsWorldKept limit state.world
+pub record IsStateKept (link : ℕ) (state : State) : Type 0 where
+  pub most : state.world.limit ≤ 4096
+  pub world : IsWorldKept state.world.limit state.world
   -- rows were told of each buffer that is there, and of no other
   pub told : AreListsKept state.world.next state.world.groups state.told
   -- the commands of the start are text

@@ -1,5 +1,5 @@
 -- A client that settled by the dump of a part has this part of the world.
-use Rattle.std.specs.Prelude.{◌≡◌, ℕ, ◌≤◌, Bool, true, List, [], ◌∷◌, length, None, IfSome}
+use Rattle.std.specs.Prelude.{◌≡◌, ℕ, ◌≤◌, Bool, true, List, [], ◌∷◌, length, Option, None, IfSome}
 use Rattle.std.specs.List.{AllByRecursion}
 use Rattle.std.specs.Str.{IsUtf8}
 use Rattle.wc_text.specs.declared.names.Handle.{Handle}
@@ -17,20 +17,20 @@ use Rattle.wc_core.specs.Step.{change_step, push_at, push_step, step, run}
 use Rattle.wc_core.specs.Served.{messages_to}
 use Rattle.wc_mirror_laws.specs.Held.{HeldPart, HeldOf, nothing, fold_one, Has}
 use Rattle.wc_mirror_laws.specs.Settled.{AskedFor, asked_in, client_on, is_following, IsFair}
-use Rattle.wc_mirror_laws.specs.Settled.{TakesDump, SettledBy}
+use Rattle.wc_mirror_laws.specs.Settled.{TakesDump, SettledBy, IsPlain, IsLimited}
 use Rattle.wc_mirror_laws.specs.Changes.{IsTold}
 use Rattle.wc_mirror_laws.specs.Kept.{IsStateKept}
 use Rattle.wc_eval.specs.Verdicts.{Oracle}
 
 -- what a client has of a part after one message and another
-abbrev pub fold_all : (which : HeldPart) → ℕ → List ℕ → HeldOf which → List WireMessage →
+abbrev pub fold_all : (which : HeldPart) → Option ℕ → List ℕ → HeldOf which → List WireMessage →
     HeldOf which
 fold_all which limit id part [] = part
 fold_all which limit id part (message ∷ messages) = fold_all which limit id
     (fold_one which limit id part message) messages
 
 -- what a client has, which had this before it was sent the messages of the acts for its link
-abbrev pub mirror_after : (which : HeldPart) → ℕ → ℕ → List ℕ → HeldOf which → List Act →
+abbrev pub mirror_after : (which : HeldPart) → Option ℕ → ℕ → List ℕ → HeldOf which → List Act →
     HeldOf which
 mirror_after which limit link id part acts = fold_all which limit id part (messages_to link acts)
 
@@ -46,76 +46,83 @@ IsShortLine (Line link line) = length line ≤ 65536
 IsShortLine _ = Unit {0}
 
 -- Whoever settled by the dump of a part has exactly this part of the world, by all messages that it
--- was sent.
+-- was sent: with a mirror that keeps no limit where it asked for the events of lines that went, and with
+-- one that keeps the limit of the world where that was never changed.
 abbrev pub Mirrors : HeldPart → Type 0
-Mirrors which = (oracle : Oracle) (options : OptionsValue) (limit : ℕ)
+Mirrors which = (limit : Option ℕ) (oracle : Oracle) (options : OptionsValue) (lines : ℕ)
     (commands : List (List ℕ)) (connects : Bool)
     (events : List Event) (link : ℕ) (id : List ℕ)
-    → limit ≤ 4096 → AllByRecursion IsUtf8 commands → AllByRecursion IsShortLine events →
-    SettledBy which link id (beginning oracle options limit commands connects) events
+    → lines ≤ 4096 → AllByRecursion IsUtf8 commands → AllByRecursion IsShortLine events →
+    SettledBy limit which link id (beginning oracle options lines commands connects) events
+    → IsLimited limit (run (beginning oracle options lines commands connects) events).state.world
     → Has which (mirror_after which limit link id (nothing which)
-    (run (beginning oracle options limit commands connects) events).acts)
-    (run (beginning oracle options limit commands connects) events).state
+    (run (beginning oracle options lines commands connects) events).acts)
+    (run (beginning oracle options lines commands connects) events).state
 
 -- One event: a client that had the part, and that is open and follows all events afterwards, has it
 -- still.
 abbrev pub StepMirrors : HeldPart → Type 0
-StepMirrors which = (limit link : ℕ) (id : List ℕ) (state : State) (event : Event)
+StepMirrors which = (limit : Option ℕ) (link : ℕ) (id : List ℕ) (state : State) (event : Event)
     (part : HeldOf which)
-    → IsStateKept limit link state → BeginsWithout 95 id → IsShortLine event →
+    → IsStateKept link state → BeginsWithout 95 id → IsShortLine event →
     AllByRecursion (IsFair which id) (asked_in link state event)
-    → is_following (client_on link (step state event).state) ≡ true → Has which part state
+    → IsPlain limit (client_on link state)
+    → is_following limit (client_on link (step state event).state) ≡ true
+    → IsLimited limit (step state event).state.world → Has which part state
     → Has which (mirror_after which limit link id part (step state event).acts)
     (step state event).state
 
 -- The dump: a client has the part after it, whatever it had.
 abbrev pub DumpMirrors : HeldPart → Type 0
-DumpMirrors which = (limit link : ℕ) (id : List ℕ) (state : State) (event : Event)
+DumpMirrors which = (limit : Option ℕ) (link : ℕ) (id : List ℕ) (state : State) (event : Event)
     (part : HeldOf which) (dump : AskedFor)
-    → IsStateKept limit link state → IsShortLine event → asked_in link state event ≡ dump ∷ [] →
-    TakesDump which id dump
-    → is_following (client_on link (step state event).state) ≡ true
+    → IsStateKept link state → IsShortLine event → asked_in link state event ≡ dump ∷ [] →
+    TakesDump which id dump → IsPlain limit (client_on link state)
+    → is_following limit (client_on link (step state event).state) ≡ true
+    → IsLimited limit (step state event).state.world
     → Has which (mirror_after which limit link id part (step state event).acts)
     (step state event).state
 
 -- What always holds of the core does so after each event, and it holds after all events from the
 -- start.
 abbrev pub StepKeeps : Type 0
-StepKeeps = (limit link : ℕ) (state : State) (event : Event) → IsStateKept limit link state →
-    IsStateKept limit link (step state event).state
+StepKeeps = (link : ℕ) (state : State) (event : Event) → IsStateKept link state →
+    IsStateKept link (step state event).state
 
 abbrev pub RunKeeps : Type 0
-RunKeeps = (oracle : Oracle) (options : OptionsValue) (limit : ℕ)
+RunKeeps = (oracle : Oracle) (options : OptionsValue) (lines : ℕ)
     (commands : List (List ℕ)) (connects : Bool)
-    (events : List Event) (link : ℕ) → limit ≤ 4096 → AllByRecursion IsUtf8 commands →
-    IsStateKept limit link (run (beginning oracle options limit commands connects) events).state
+    (events : List Event) (link : ℕ) → lines ≤ 4096 → AllByRecursion IsUtf8 commands →
+    IsStateKept link (run (beginning oracle options lines commands connects) events).state
 
 -- The same of an accepted change of any kind, be it of a nicklist, and whoever asked for it.
 abbrev pub ChangeKeeps : Type 0
-ChangeKeeps = (limit link : ℕ) (state : State) (change : Change) → IsStateKept limit link state →
+ChangeKeeps = (link : ℕ) (state : State) (change : Change) → IsStateKept link state →
     IsTold change.what → refusal state.world change ≡ None →
-    IsStateKept limit link (change_step state change).state
+    IsStateKept link (change_step state change).state
 
 -- A client that follows all events and had the part has it after the change: of a nicklist it keeps
 -- the rows that were told.
 abbrev pub ChangeMirrors : HeldPart → Type 0
-ChangeMirrors which = (limit link : ℕ) (id : List ℕ) (state : State) (change : Change)
-    (part : HeldOf which)
-    → IsStateKept limit link state → BeginsWithout 95 id → IsTold change.what →
-    refusal state.world change ≡ None → is_following (client_on link state) ≡ true →
-    Has which part state
+ChangeMirrors which = (limit : Option ℕ) (link : ℕ) (id : List ℕ) (state : State)
+    (change : Change) (part : HeldOf which)
+    → IsStateKept link state → BeginsWithout 95 id → IsTold change.what →
+    refusal state.world change ≡ None → IsPlain limit (client_on link state)
+    → is_following limit (client_on link state) ≡ true
+    → IsLimited limit (change_step state change).state.world → Has which part state
     → Has which (mirror_after which limit link id part (change_step state change).acts)
     (change_step state change).state
 
 -- The same of pushes: of each nicklist it then has the rows of now.
 abbrev pub PushKeeps : Type 0
-PushKeeps = (limit link : ℕ) (state : State) → IsStateKept limit link state →
-    IsStateKept limit link (push_step state).state
+PushKeeps = (link : ℕ) (state : State) → IsStateKept link state →
+    IsStateKept link (push_step state).state
 
 abbrev pub PushMirrors : HeldPart → Type 0
-PushMirrors which = (limit link : ℕ) (id : List ℕ) (state : State) (part : HeldOf which)
-    → IsStateKept limit link state → BeginsWithout 95 id →
-    is_following (client_on link state) ≡ true → Has which part state
+PushMirrors which = (limit : Option ℕ) (link : ℕ) (id : List ℕ) (state : State)
+    (part : HeldOf which)
+    → IsStateKept link state → BeginsWithout 95 id →
+    is_following limit (client_on link state) ≡ true → Has which part state
     → Has which (mirror_after which limit link id part (push_step state).acts)
     (push_step state).state
 
@@ -127,7 +134,7 @@ TickTells = (state : State) (moment : ℕ) →
 -- No push of a buffer that is there is too long for a message, and no list of all nicklists under an
 -- id that a line can hold.
 abbrev pub ListsFit : Type 0
-ListsFit = (limit link : ℕ) (state : State) → IsStateKept limit link state
+ListsFit = (link : ℕ) (state : State) → IsStateKept link state
     → ((buffer : Handle) → is_there buffer state.world.groups ≡ true →
     IfSome (push_message buffer (push_at state buffer.0)) (λ m. fits m ≡ true))
     × ((id : List ℕ) → length id ≤ 65536 →

@@ -1,12 +1,14 @@
 -- Which clients hold the lines of all buffers, the buffers, or the nicklists: those that settled by
 -- the dump of them.
-use Rattle.std.specs.Prelude.{◌≡◌, ℕ, Bool, true, false, ◌&&◌, ◌==◌, if◌then◌else◌, List, []}
-use Rattle.std.specs.Prelude.{◌∷◌, ◌++◌, Option, Some, None, bytes_eq}
-use Rattle.std.specs.List.{AllByRecursion}
+use Rattle.std.specs.Prelude.{◌≡◌, ℕ, Bool, true, false, ◌&&◌, ◌||◌, ◌==◌, if◌then◌else◌, List, []}
+use Rattle.std.specs.Prelude.{◌∷◌, ◌++◌, Option, Some, None, bytes_eq, is_some}
+use Rattle.std.specs.List.{AllByRecursion, list_any}
 use Rattle.wc_outside.specs.Keyed.{at_key}
 use Rattle.wc_relaycmd.specs.declared.request.Request.{Request}
 use Rattle.wc_relaycmd.specs.Answers.{request_of}
+use Rattle.wc_model.specs.World.{World}
 use Rattle.wc_session.specs.declared.client.Client.{Client}
+use Rattle.wc_session.specs.declared.sync_set.BufferSet.{BufferSet}
 use Rattle.wc_core.specs.Events.{Event, Line}
 use Rattle.wc_core.specs.State.{State}
 use Rattle.wc_core.specs.Step.{client_link, step, run}
@@ -41,15 +43,42 @@ asked_on link state [] = []
 asked_on link state (event ∷ events) = asked_in link state event
     ++ asked_on link (step state event).state events
 
--- of all buffers it asked for each event that a mirror needs
-abbrev pub follows_all : Client → Bool
-follows_all client = client.everywhere.buffers
-    && (client.everywhere.buffer && client.everywhere.nicklist)
+-- Of all buffers it asked for each event that a mirror needs: one that keeps no limit of its own needs
+-- those of lines that went too.
+abbrev pub follows_all : Option ℕ → Client → Bool
+follows_all limit client = client.everywhere.buffers
+    && (client.everywhere.buffer && (client.everywhere.nicklist
+    && (is_some limit || client.everywhere.trims)))
 
 -- the same, of a client that is open
-abbrev pub is_following : Option Client → Bool
-is_following None = false
-is_following (Some client) = follows_all client
+abbrev pub is_following : Option ℕ → Option Client → Bool
+is_following limit None = false
+is_following limit (Some client) = follows_all limit client
+
+-- no set of a client has the events of lines that went
+abbrev pub sets_have_trims : List BufferSet → Bool
+sets_have_trims sets = list_any (λ (s : BufferSet). s.set.trims) sets
+
+abbrev pub HasNoTrims : Option Client → Type 0
+HasNoTrims None = Unit {0}
+HasNoTrims (Some client) = (client.everywhere.trims ≡ false)
+    × (sets_have_trims client.sets ≡ false)
+
+-- a mirror that keeps a limit of its own is one of a client that did not ask for them
+abbrev pub IsPlain : Option ℕ → Option Client → Type 0
+IsPlain None client = Unit {0}
+IsPlain (Some limit) client = HasNoTrims client
+
+-- never from this state on
+abbrev pub StaysPlain : Option ℕ → ℕ → State → List Event → Type 0
+StaysPlain limit link state [] = IsPlain limit (client_on link state)
+StaysPlain limit link state (event ∷ events) = IsPlain limit (client_on link state)
+    × StaysPlain limit link (step state event).state events
+
+-- and where it keeps a limit of its own it is that of the world, which was never changed
+abbrev pub IsLimited : Option ℕ → World → Type 0
+IsLimited None world = Unit {0}
+IsLimited (Some limit) world = (world.limit ≡ limit) × (world.limit_changes ≡ 0)
 
 abbrev pub has_id : List ℕ → AskedFor → Bool
 has_id id asked = bytes_eq asked.request.id id
@@ -66,8 +95,9 @@ IsFair which id asked = has_id id asked ≡ true → asks_dump which asked.reque
 
 -- A client that follows all events took the dump of a part. From then on it used the id of the dump
 -- for nothing else, but it may have taken the dump again. It followed all events at each request
--- from the dump on, and it follows them still and is open at the end.
-pub record SettledBy (which : HeldPart) (link : ℕ) (id : List ℕ) (state : State)
+-- from the dump on, and it follows them still and is open at the end. Where its mirror keeps a limit of
+-- its own it never asked for the events of lines that went.
+pub record SettledBy (limit : Option ℕ) (which : HeldPart) (link : ℕ) (id : List ℕ) (state : State)
     (events : List Event) : Type 0 where
   pub before : List AskedFor
   pub dump : AskedFor
@@ -75,17 +105,18 @@ pub record SettledBy (which : HeldPart) (link : ℕ) (id : List ℕ) (state : St
   pub asked : asked_on link state events ≡ before ++ dump ∷ following
   pub takes : TakesDump which id dump
   pub fair : AllByRecursion (IsFair which id) following
-  pub follows : AllByRecursion (λ asked. follows_all asked.client ≡ true) (dump ∷ following)
-  pub still : is_following (client_on link (run state events).state) ≡ true
+  pub follows : AllByRecursion (λ asked. follows_all limit asked.client ≡ true) (dump ∷ following)
+  pub still : is_following limit (client_on link (run state events).state) ≡ true
+  pub plain : StaysPlain limit link state events
 
 -- it settled by the line dump
-abbrev pub Settled : ℕ → List ℕ → State → List Event → Type 0
-Settled link id state events = SettledBy Lines link id state events
+abbrev pub Settled : Option ℕ → ℕ → List ℕ → State → List Event → Type 0
+Settled limit link id state events = SettledBy limit Lines link id state events
 
 -- it settled by the buffer dump
-abbrev pub SettledBuffers : ℕ → List ℕ → State → List Event → Type 0
-SettledBuffers link id state events = SettledBy Buffers link id state events
+abbrev pub SettledBuffers : Option ℕ → ℕ → List ℕ → State → List Event → Type 0
+SettledBuffers limit link id state events = SettledBy limit Buffers link id state events
 
 -- it settled by the nicklists of all buffers
-abbrev pub SettledNicks : ℕ → List ℕ → State → List Event → Type 0
-SettledNicks link id state events = SettledBy Nicks link id state events
+abbrev pub SettledNicks : Option ℕ → ℕ → List ℕ → State → List Event → Type 0
+SettledNicks limit link id state events = SettledBy limit Nicks link id state events

@@ -1,4 +1,6 @@
-//! What each client that settled holds.
+//! What each client that settled holds: in one form with a mirror that keeps no limit of lines of its
+//! own, of a client that asked for the events of lines that went, and in the other with one that keeps
+//! the limit of the world, which was never changed, of a client that never asked for them.
 
 ghost use Rattle.wc_mirror_laws.specs.Bytes.{BuffersShow, BytesShow, NicksShow, RunSpells};
 ghost use Rattle.wc_mirror_laws.specs.Bytes.{SpellOnce};
@@ -11,7 +13,8 @@ ghost use Rattle.wc_mirror_laws.specs.Mirrors.{PushMirrors, TickTells, ListsFit}
 ghost use Rattle.wc_mirror_laws.specs.Replies.{GetsOneReply};
 
 /// A client that settled has exactly the lines of each buffer after any events, and none of a
-/// buffer that is not there, by the messages that it was sent.
+/// buffer that is not there, by the messages that it was sent. Where it asked for the events of lines
+/// that went this is so however often the limit of lines was changed.
 pub fn settled_client_has_lines()
     ensures { Mirrors Lines }
 {}
@@ -47,8 +50,8 @@ pub fn sent_bytes_show_nicks()
     ensures { NicksShow }
 {}
 
-/// A client that has the lines of all buffers has them still after one event, and one that takes
-/// the dump has them after it.
+/// A client that has the lines of all buffers has them still after one event, another limit of lines
+/// too, and one that takes the dump has them after it.
 pub fn event_keeps_lines()
     ensures kept { StepMirrors Lines }
     ensures dump { DumpMirrors Lines }
@@ -76,7 +79,8 @@ pub fn core_keeps()
     ensures push { PushKeeps }
 {}
 
-/// A client that has a part has it still after any change that is told, of a nicklist too.
+/// A client that has a part has it still after any change that is told, of a nicklist and of the limit
+/// of lines too.
 pub fn change_keeps_parts()
     ensures lines { ChangeMirrors Lines }
     ensures buffers { ChangeMirrors Buffers }
@@ -93,7 +97,8 @@ pub fn push_keeps_parts()
     ensures fits { ListsFit }
 {}
 
-/// A client that logs in, asks for all events and takes the dump of a part has settled by it.
+/// A client that logs in, asks for all events and takes the dump of a part has settled by it, for each
+/// of the two kinds of mirrors.
 pub fn three_lines_settle()
     ensures lines { ThreeLinesSettle }
     ensures buffers { ThreeLinesSettleBuffers }

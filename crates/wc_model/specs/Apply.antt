@@ -5,7 +5,7 @@ use Rattle.std.specs.List.{list_any}
 use Rattle.std.specs.FinMap.{insert, remove, entries, from_entries}
 use Rattle.wc_text.specs.declared.names.Handle.{Handle}
 use Rattle.wc_lines.specs.declared.line.Line.{Line}
-use Rattle.wc_lines.specs.Ring.{last_of, has_content, set_displayed}
+use Rattle.wc_lines.specs.Ring.{counted, last_of, has_content, set_displayed}
 use Rattle.wc_buffers.specs.declared.row.BufferRow.{BufferRow}
 use Rattle.wc_buffers.specs.declared.refused.BufferRefused.{BufferRefused}
 use Rattle.wc_buffers.specs.Calls.{EntryGroups, no_buffer, add_refusal, close_refusal, move_refusal}
@@ -30,7 +30,7 @@ use Rattle.wc_model.specs.declared.change.What.TheVariants.{Add, Close, MoveTo, 
 use Rattle.wc_model.specs.declared.change.What.TheVariants.{Hide, Unhide, Rename, ShortName, Title}
 use Rattle.wc_model.specs.declared.change.What.TheVariants.{SetVar, RemoveVar, Print, Clear, Flips}
 use Rattle.wc_model.specs.declared.change.What.TheVariants.{AddGroup, AddNick, RemoveGroup}
-use Rattle.wc_model.specs.declared.change.What.TheVariants.{RemoveNick, ChangeGroup, ChangeNick}
+use Rattle.wc_model.specs.declared.change.What.TheVariants.{RemoveNick, ChangeGroup, ChangeNick, Limit}
 use Rattle.wc_model.specs.declared.refused.ChangeRefused.{ChangeRefused}
 use Rattle.wc_model.specs.declared.refused.ChangeRefused.TheVariants.{Buffer, Nick, NoLine}
 use Rattle.wc_model.specs.declared.refused.ChangeRefused.TheVariants.{TooManyRows, Spent}
@@ -124,6 +124,7 @@ refusal_of world buffer (RemoveGroup name) = removes_row world buffer true name
 refusal_of world buffer (RemoveNick name) = removes_row world buffer false name
 refusal_of world buffer (ChangeGroup item) = changes_row world buffer true item
 refusal_of world buffer (ChangeNick item) = changes_row world buffer false item
+refusal_of world buffer (Limit limit) = None
 
 -- why a change is refused, by the first reason that holds, but for want of memory
 abbrev pub refusal : World → Change → Option ChangeRefused
@@ -150,6 +151,15 @@ with_lines world buffer lines = record world { lines = insert world.lines buffer
 
 abbrev pub with_rows : World → Handle → List Row → World
 with_rows world buffer rows = record world { nicks = insert world.nicks buffer.0 rows }
+
+-- the last lines of each buffer up to a limit, from now on the limit of all
+abbrev pub with_limit : ℕ → World → World
+with_limit limit world = record world {
+  lines =
+      from_entries (map (λ e. (e.0, last_of limit e.1)) (entries world.lines));
+  limit = limit;
+  limit_changes = counted world.limit_changes;
+}
 
 -- an item as a row takes it: what is too long is cut
 abbrev pub item_with : Handle → Item → Item
@@ -234,6 +244,7 @@ after_of world buffer (ChangeGroup item) = with_changed_row world buffer
     (key_at true item.name) item
 after_of world buffer (ChangeNick item) = with_changed_row world buffer
     (key_at false item.name) item
+after_of world buffer (Limit limit) = with_limit limit world
 
 abbrev pub after : World → Change → World
 after world change = after_of world change.buffer change.what

@@ -4,6 +4,7 @@ pub mod Levels
 pub mod LineCuts
 pub mod Notices
 pub mod Order
+pub mod Parts
 pub mod Refusals
 pub mod Touches
 pub mod World

@@ -1,5 +1,6 @@
 -- What is noticed of a change.
-use Rattle.std.specs.Prelude.{◌≡◌, ℕ, Bool, true, false, not, ◌==◌, Option, Some, None, List, []}
+use Rattle.std.specs.Prelude.{◌≡◌, ℕ, ◌+◌, ◌-◌, length, Bool, true, false, not, ◌==◌, Option, Some}
+use Rattle.std.specs.Prelude.{None, List, [], if◌then◌else◌}
 use Rattle.std.specs.Prelude.{◌∷◌, map, filter, unwrap_or, Result, Ok, Err}
 use Rattle.std.specs.List.{flat_map, find as find_first}
 use Rattle.wc_text.specs.declared.names.Handle.{Handle}
@@ -12,10 +13,11 @@ use Rattle.wc_model.specs.declared.change.What.TheVariants.{Add, Close, MoveTo, 
 use Rattle.wc_model.specs.declared.change.What.TheVariants.{Hide, Unhide, Rename, ShortName, Title}
 use Rattle.wc_model.specs.declared.change.What.TheVariants.{SetVar, RemoveVar, Print, Clear, Flips}
 use Rattle.wc_model.specs.declared.change.What.TheVariants.{AddGroup, AddNick, RemoveGroup}
-use Rattle.wc_model.specs.declared.change.What.TheVariants.{RemoveNick, ChangeGroup, ChangeNick}
+use Rattle.wc_model.specs.declared.change.What.TheVariants.{RemoveNick, ChangeGroup, ChangeNick, Limit}
 use Rattle.wc_model.specs.declared.notice.EventKind.{EventKind}
 use Rattle.wc_model.specs.declared.notice.EventKind.TheVariants as kind
 use Rattle.wc_model.specs.declared.notice.Notice.{Notice}
+use Rattle.wc_model.specs.declared.notice.Trim.{Trim}
 use Rattle.wc_model.specs.declared.refused.ChangeRefused.{ChangeRefused}
 use Rattle.wc_model.specs.declared.refused.ChangeRefused.TheVariants.{NoMemory}
 use Rattle.wc_model.specs.World.{World, lines_at}
@@ -49,12 +51,14 @@ kind_of world buffer (RemoveGroup name) = kind.NickTouched
 kind_of world buffer (RemoveNick name) = kind.NickTouched
 kind_of world buffer (ChangeGroup item) = kind.NickTouched
 kind_of world buffer (ChangeNick item) = kind.NickTouched
+kind_of world buffer (Limit limit) = kind.LimitSet
 
 -- the buffer that is told of, and the groups in which it is told: those after the change, and
 -- before it for a close
 abbrev pub about : World → Handle → What → Handle
 about world buffer (Add spec) = record { 0 = world.next }
 about world buffer (Flips flips) = record { 0 = 0 }
+about world buffer (Limit limit) = record { 0 = 0 }
 about world buffer _ = buffer
 
 abbrev pub told_groups : World → World → What → EntryGroups
@@ -89,6 +93,26 @@ abbrev pub flips_between : World → World → List Handle
 flips_between before following = flat_map (λ buffer. flips_in (lines_at before buffer)
     (lines_at following buffer)) (order following.groups)
 
+-- ---- the lines that went, since as many were held as may be
+
+-- none where no line went
+abbrev pub trim_of : Handle → ℕ → List Trim
+trim_of buffer count =
+    if count == 0 then [] else record { buffer = buffer; count = count } ∷ []
+
+-- of a buffer that holds so many lines at most from now on
+abbrev pub trim_to : ℕ → World → ℕ → List Trim
+trim_to limit world buffer = trim_of (record { 0 = buffer })
+    (length (lines_at world buffer) - limit)
+
+-- A line that is printed puts out the oldest where as many as may be are held, and a lower limit those
+-- above it. Lines that are taken by a clear or with their buffer did not go so.
+abbrev pub trims_of : World → Handle → What → List Trim
+trims_of world buffer (Print line) = trim_of buffer
+    (length (lines_at world buffer.0) + 1 - world.limit)
+trims_of world buffer (Limit limit) = flat_map (trim_to limit world) (order world.groups)
+trims_of world buffer _ = []
+
 -- ---- the notice
 
 abbrev pub name_in : Option BufferRow → List ℕ
@@ -96,8 +120,9 @@ name_in None = []
 name_in (Some row) = row.full_name
 
 -- what is noticed of a buffer in these groups; of the null handle nothing is told
-abbrev pub notice_at : EventKind → Handle → EntryGroups → List Handle → List Handle → Notice
-notice_at kind buffer groups lines flips = record {
+abbrev pub notice_with : EventKind → Handle → EntryGroups → List Handle → List Handle → List Trim →
+    Notice
+notice_with kind buffer groups lines flips trims = record {
   kind = kind;
   buffer = buffer;
   number = unwrap_or (number buffer groups) 0;
@@ -106,13 +131,18 @@ notice_at kind buffer groups lines flips = record {
   next = record { 0 = next_of buffer.0 groups };
   lines = lines;
   flips = flips;
+  trims = trims;
 }
+
+-- the same of a change for which no line went
+abbrev pub notice_at : EventKind → Handle → EntryGroups → List Handle → List Handle → Notice
+notice_at kind buffer groups lines flips = notice_with kind buffer groups lines flips []
 
 abbrev pub notice_of : World → World → Handle → What → Notice
 notice_of before following buffer what =
-    notice_at (kind_of before buffer what) (about before buffer what)
+    notice_with (kind_of before buffer what) (about before buffer what)
     (told_groups before following what) (printed_handle before what)
-    (flips_between before following)
+    (flips_between before following) (trims_of before buffer what)
 
 abbrev pub notice : World → Change → Notice
 notice world change = notice_of world (after world change) change.buffer change.what

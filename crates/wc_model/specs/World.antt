@@ -16,8 +16,9 @@ pub record World : Type 0 where
   pub printed : FinMap nat_cmp ℕ
   -- the rows of each buffer's nicklist in canonical order, by the buffer's handle
   pub nicks : FinMap nat_cmp (List Row)
-  -- how many lines a buffer holds at most
+  -- how many lines a buffer holds at most, and how often that was changed
   pub limit : ℕ
+  pub limit_changes : ℕ
   -- the next handle
   pub next : ℕ
 
@@ -64,6 +65,7 @@ first_world limit = record {
   printed = insert empty 1 0;
   nicks = insert empty 1 [];
   limit = limit;
+  limit_changes = 0;
   next = 5;
 }
 

@@ -45,6 +45,9 @@ pub enum What {
     ChangeGroup(Item),
     /// The nick of the item's name gets its other fields, but for the handle.
     ChangeNick(Item),
+    /// Each buffer holds as many lines at most, 1 to 4,096, from now on, and those above it go, from
+    /// the oldest. No buffer is looked at.
+    Limit(u32),
 }
 
 /// A line that filters show or hide from now on.

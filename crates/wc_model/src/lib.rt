@@ -10,5 +10,5 @@ mod refused;
 pub use change::{Change, Flip, LineSpec, What};
 pub use laws::{lines_leave_buffers, notice_of_new_buffer};
 pub use levels::{LineLevels, levels_of};
-pub use notice::{EventKind, Notice};
+pub use notice::{EventKind, Notice, Trim};
 pub use refused::ChangeRefused;

@@ -35,7 +35,7 @@ option name kind default range = record {
 unfoldable pub globals : List OptionRow
 globals =
     option (codes "weechat.history.max_buffer_lines_number") (Number 1 4096) (codes "4096")
-    (codes "1 to 4096, read at the start")
+    (codes "1 to 4096")
     ∷ option (codes "relay.network.password") Text [] (codes "text")
     ∷ option (codes "relay.network.password_hash_algo") Text (codes "*")
     (codes "masks joined by commas")

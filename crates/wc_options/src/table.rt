@@ -37,7 +37,7 @@ pub(crate) const GLOBALS: [Row; 12] = [
         name: b"weechat.history.max_buffer_lines_number",
         kind: LINES,
         default: b"4096",
-        range: b"1 to 4096, read at the start",
+        range: b"1 to 4096",
     },
     Row {
         name: b"relay.network.password",

@@ -1,5 +1,5 @@
--- Whether the texts of what a server asks for are UTF-8.
-use Rattle.std.specs.Prelude.{Bool, true, ◌&&◌}
+-- Whether the texts of what a server asks for are UTF-8, and a limit of lines is one that there may be.
+use Rattle.std.specs.Prelude.{Bool, true, ◌&&◌, nat_le}
 use Rattle.std.specs.List.{list_all}
 use Rattle.std.specs.Str.{is_utf8}
 use Rattle.wc_text.specs.declared.names.Pair.{Pair}
@@ -45,3 +45,4 @@ is_change_text (what.RemoveGroup name) = true
 is_change_text (what.RemoveNick name) = true
 is_change_text (what.ChangeGroup item) = is_item_text item
 is_change_text (what.ChangeNick item) = is_item_text item
+is_change_text (what.Limit limit) = nat_le 1 limit && nat_le limit 4096

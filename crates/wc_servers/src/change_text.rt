@@ -67,7 +67,7 @@ fn is_item_text(item: &Item) -> bool
         && is_text(&item.prefix_color)
 }
 
-/// Whether the texts of a change are UTF-8.
+/// Whether the texts of a change are UTF-8, and a limit of lines is one that there may be.
 #[tactic(auto, unfolding(crate::specs::Texts::is_change_text))]
 pub fn is_change_text(what: &What) -> bool
     ensures { result ≡ is_change_text what.now }
@@ -82,6 +82,7 @@ pub fn is_change_text(what: &What) -> bool
         What::AddGroup { parent, item } => is_text(parent) && is_item_text(item),
         What::AddNick { group, item } => is_text(group) && is_item_text(item),
         What::ChangeGroup(item) | What::ChangeNick(item) => is_item_text(item),
+        What::Limit(limit) => *limit >= 1 && *limit <= 4096,
         What::Close
         | What::MoveTo(_)
         | What::MergeInto(_)

@@ -13,7 +13,7 @@ use Rattle.wc_text.specs.declared.names.Handle.{Handle}
 use Rattle.wc_nickdiff.specs.declared.diff_item.Push.{Push}
 use Rattle.wc_events.specs.NickObjects.{push_kind}
 use Rattle.wc_session.specs.Known.{Known}
-use Rattle.wc_session.specs.Event.{Spelled, IsEventOf, IsPushOf, event_messages, notice_told, push_messages, push_told, with_event}
+use Rattle.wc_session.specs.Event.{Spelled, IsEventOf, IsPushOf, event_messages, part_told, push_messages, push_told, with_event}
 use Rattle.wc_session.specs.Sync.{follows}
 use Rattle.wc_session.specs.Sending.{message, spelling, fits, fitting, reply, null_hdata, is_owed, Sends}
 
@@ -106,10 +106,10 @@ told_sends event kind at messages session what where_it_is sends = by (follows k
       spelt = tt;
     })
 
-pub event_sends : (event : Spelled) (world : World) (notice : Notice) (session : Known) → IsEventOf event world notice
-    → Sends session.unsent (with_event event session).unsent (notice_told world notice session.client)
-unfolding notice_told
-event_sends event world notice session is = told_sends event notice.kind notice.buffer (event_messages world notice) session is.kind is.buffer is.bytes
+pub event_sends : (event : Spelled) (world : World) (part : Notice) (session : Known) → IsEventOf event world part
+    → Sends session.unsent (with_event event session).unsent (part_told world part session.client)
+unfolding part_told
+event_sends event world part session is = told_sends event part.kind part.buffer (event_messages world part) session is.kind is.buffer is.bytes
 
 pub push_sends : (event : Spelled) (buffer : Handle) (push : Push) (session : Known) → IsPushOf event buffer push
     → Sends session.unsent (with_event event session).unsent (push_told buffer push session.client)

@@ -1,9 +1,10 @@
 -- The event of a notice, which is spelled once for all clients.
-use Rattle.std.specs.Prelude.{◌≡◌, ℕ, List, [], ◌++◌, Option, Some, None, if◌then◌else◌}
+use Rattle.std.specs.Prelude.{◌≡◌, ℕ, List, [], ◌∷◌, ◌++◌, Option, Some, None, if◌then◌else◌}
 use Rattle.wc_text.specs.declared.names.Handle.{Handle}
 use Rattle.wc_objects.specs.declared.object.WireMessage.{WireMessage}
 use Rattle.wc_model.specs.declared.notice.EventKind.{EventKind}
 use Rattle.wc_model.specs.declared.notice.Notice.{Notice}
+use Rattle.wc_model.specs.Parts.{parts_of}
 use Rattle.wc_model.specs.World.{World}
 use Rattle.wc_nickdiff.specs.declared.diff_item.Push.{Push}
 use Rattle.wc_events.specs.BufferObjects.{event_of}
@@ -44,10 +45,21 @@ with_event event session = record {
   unsent = session.unsent ++ bytes_for event session.client;
 }
 
--- what a client is told of a notice
-unfoldable pub notice_told : World → Notice → Client → List WireMessage
-notice_told world notice client = if follows notice.kind notice.buffer.0 client
-    then event_messages world notice else []
+-- what a client is told of one part of a notice
+unfoldable pub part_told : World → Notice → Client → List WireMessage
+part_told world part client = if follows part.kind part.buffer.0 client
+    then event_messages world part else []
+
+-- the same of some, one after another
+abbrev pub parts_told : World → List Notice → Client → List WireMessage
+parts_told world [] client = []
+parts_told world (part ∷ parts) client = part_told world part client
+    ++ parts_told world parts (after_event part.kind part.buffer.0 client)
+
+-- What a client is told of a notice: the event of the change, and after it of each buffer that lost its
+-- oldest lines how many went.
+abbrev pub notice_told : World → Notice → Client → List WireMessage
+notice_told world notice client = parts_told world (parts_of world notice) client
 
 -- ---- pushes
 

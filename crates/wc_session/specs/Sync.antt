@@ -19,10 +19,23 @@ abbrev pub has : List ℕ → List (List ℕ) → Bool
 has name names = list_any (λ other. bytes_eq other name) names
 
 abbrev pub no_options : SyncSet
-no_options = record { buffers = false; upgrade = false; buffer = false; nicklist = false }
+no_options = record {
+  buffers = false;
+  upgrade = false;
+  buffer = false;
+  nicklist = false;
+  trims = false;
+}
 
-abbrev pub all_options : SyncSet
-all_options = record { buffers = true; upgrade = true; buffer = true; nicklist = true }
+-- what a request asks for that names no option
+abbrev pub usual_options : SyncSet
+usual_options = record {
+  buffers = true;
+  upgrade = true;
+  buffer = true;
+  nicklist = true;
+  trims = false;
+}
 
 -- the options of these names; other names are none
 abbrev pub options_named : List (List ℕ) → SyncSet
@@ -31,14 +44,15 @@ options_named names = record {
   upgrade = has (codes "upgrade") names;
   buffer = has (codes "buffer") names;
   nicklist = has (codes "nicklist") names;
+  trims = has (codes "trims") names;
 }
 
--- the options of a request, where none stand for all
+-- the options of a request, where none stand for the usual ones
 abbrev pub options_asked : Option (List (List ℕ)) → SyncSet
-options_asked None = all_options
+options_asked None = usual_options
 options_asked (Some names) = options_named names
 
--- of one buffer there are events of its own and of its nicklist alone
+-- of one buffer there are events of its own, of its nicklist, and of its lines that went, alone
 abbrev pub of_buffer : SyncSet → SyncSet
 of_buffer set = record set { buffers = false; upgrade = false }
 
@@ -48,6 +62,7 @@ union a b = record {
   upgrade = a.upgrade || b.upgrade;
   buffer = a.buffer || b.buffer;
   nicklist = a.nicklist || b.nicklist;
+  trims = a.trims || b.trims;
 }
 
 abbrev pub difference : SyncSet → SyncSet → SyncSet
@@ -57,6 +72,7 @@ difference a b = record {
       && not b.upgrade;
   buffer = a.buffer && not b.buffer;
   nicklist = a.nicklist && not b.nicklist;
+  trims = a.trims && not b.trims;
 }
 
 -- ---- the sets for single buffers
@@ -115,6 +131,7 @@ asks asked.Buffers set = set.buffers
 asks asked.Buffer set = set.buffer
 asks asked.Either set = set.buffers || set.buffer
 asks asked.Nicklist set = set.nicklist
+asks asked.Trims set = set.trims
 asks asked.Nothing set = false
 
 -- the options of which an event needs one

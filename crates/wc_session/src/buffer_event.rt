@@ -1,7 +1,8 @@
 ghost use Rattle.std.specs.Prelude.{◌≡◌, List, [], false, IfOk, IfSome, MatchOption};
 ghost use Rattle.std.specs.Str.{IsUtf8};
 ghost use Rattle.wc_buffers.specs.Calls.{is_there};
-ghost use Rattle.wc_model.specs.World.{rows_at, root_at};
+ghost use Rattle.wc_model.specs.Parts.{trim_part};
+ghost use Rattle.wc_model.specs.World.{World as WorldValue, rows_at, root_at};
 ghost use Rattle.wc_nickdiff.specs.Held.{before_at, touches_of};
 ghost use Rattle.wc_nickdiff.specs.NickPush.{nick_push};
 ghost use Rattle.wc_nickdiff.specs.Told.{IsTold};
@@ -14,8 +15,8 @@ use crate::sending::{send, send_nicks};
 use bytes::BytesMut;
 use std::alloc::Global;
 use std::marker::Model;
-use wc_events::{Nicks, event_id, event_objects, push_kind};
-use wc_model::{EventKind, Notice};
+use wc_events::{Nicks, event_id, event_objects, push_kind, trim_objects};
+use wc_model::{EventKind, Notice, Trim};
 use wc_nickdiff::{Pending, Push};
 use wc_text::{Handle, NoMemory};
 use wc_world::World;
@@ -55,6 +56,23 @@ impl BufferEvent {
         Ok(BufferEvent {
             kind: notice.kind,
             buffer: notice.buffer,
+            bytes,
+        })
+    }
+
+    /// Spells the event of the oldest lines that a buffer lost, which is the same in each world, for
+    /// however many clients are to be sent it.
+    pub fn of_trim(alloc: Global, trim: Trim) -> Result<BufferEvent, NoMemory>
+        ensures { IfOk result (λ event. (world : WorldValue) →
+            IsEventOf event world (trim_part trim)) }
+    {
+        let kind = EventKind::LinesTrimmed;
+        let objects = trim_objects(alloc, trim)?;
+        let mut bytes = BytesMut::new(alloc);
+        let _fits = send(&mut bytes, event_id(kind), objects.as_slice())?;
+        Ok(BufferEvent {
+            kind,
+            buffer: trim.buffer,
             bytes,
         })
     }

@@ -12,7 +12,7 @@ ghost use Rattle.wc_nickdiff.specs.declared.diff_item.Push.{Push};
 ghost use Rattle.wc_model.specs.declared.notice.Notice.{Notice};
 ghost use Rattle.wc_session.specs.declared.client.Client.{Client};
 ghost use Rattle.wc_session.specs.Logins.{lets_in};
-ghost use Rattle.wc_session.specs.Event.{Spelled, IsEventOf, IsPushOf, with_event, notice_told};
+ghost use Rattle.wc_session.specs.Event.{Spelled, IsEventOf, IsPushOf, with_event, part_told};
 ghost use Rattle.wc_session.specs.Event.{push_told};
 ghost use Rattle.wc_session.specs.Known.{Known};
 ghost use Rattle.wc_session.specs.OneReply.{IsOneReply};
@@ -31,12 +31,12 @@ pub fn one_reply_each()
         IsOneReply request (reply_of world options client request).messages }
 {}
 
-/// The event of a notice puts after the unsent bytes of each client what that client is to be told
-/// of it.
+/// The event of one part of a notice puts after the unsent bytes of each client what that client is
+/// to be told of it.
 pub fn event_tells()
-    ensures { (event : Spelled) (world : World) (notice : Notice) (session : Known) →
-        IsEventOf event world notice → Sends session.unsent (with_event event session).unsent
-        (notice_told world notice session.client) }
+    ensures { (event : Spelled) (world : World) (part : Notice) (session : Known) →
+        IsEventOf event world part → Sends session.unsent (with_event event session).unsent
+        (part_told world part session.client) }
 {}
 
 /// The event of a push puts after the unsent bytes of each client what that client is to be told of

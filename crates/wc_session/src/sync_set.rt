@@ -1,5 +1,5 @@
 ghost use Rattle.std.specs.Prelude.{◌≡◌};
-ghost use Rattle.wc_session.specs.Sync.{has, no_options, all_options, options_named, options_asked};
+ghost use Rattle.wc_session.specs.Sync.{has, no_options, usual_options, options_named, options_asked};
 ghost use Rattle.wc_session.specs.Sync.{of_buffer, union, difference, wants};
 
 use wc_keys::{Asked, event_asked};
@@ -13,6 +13,7 @@ pub struct SyncSet {
     pub upgrade: bool,
     pub buffer: bool,
     pub nicklist: bool,
+    pub trims: bool,
 }
 
 pub(crate) fn has(names: &[Text], name: &[u8]) -> bool
@@ -31,18 +32,21 @@ impl SyncSet {
             upgrade: false,
             buffer: false,
             nicklist: false,
+            trims: false,
         }
     }
 
-    /// Each option.
-    pub fn all() -> SyncSet
-        ensures { result ≡ all_options }
+    /// What a request asks for that names no option: each one but for `trims`, which WeeChat does not
+    /// have.
+    pub fn usual() -> SyncSet
+        ensures { result ≡ usual_options }
     {
         SyncSet {
             buffers: true,
             upgrade: true,
             buffer: true,
             nicklist: true,
+            trims: false,
         }
     }
 
@@ -55,16 +59,17 @@ impl SyncSet {
             upgrade: has(names, b"upgrade"),
             buffer: has(names, b"buffer"),
             nicklist: has(names, b"nicklist"),
+            trims: has(names, b"trims"),
         }
     }
 
-    /// The options that a request asks for. Where it names none, each one.
+    /// The options that a request asks for. Where it names none, the usual ones.
     pub fn asked(options: &Option<Items<Text>>) -> SyncSet
         ensures { result ≡ options_asked options.now }
     {
         match options {
             Some(names) => SyncSet::named(names.as_slice()),
-            None => SyncSet::all(),
+            None => SyncSet::usual(),
         }
     }
 
@@ -88,6 +93,7 @@ impl SyncSet {
             upgrade: self.upgrade || other.upgrade,
             buffer: self.buffer || other.buffer,
             nicklist: self.nicklist || other.nicklist,
+            trims: self.trims || other.trims,
         }
     }
 
@@ -100,6 +106,7 @@ impl SyncSet {
             upgrade: self.upgrade && !other.upgrade,
             buffer: self.buffer && !other.buffer,
             nicklist: self.nicklist && !other.nicklist,
+            trims: self.trims && !other.trims,
         }
     }
 
@@ -112,6 +119,7 @@ impl SyncSet {
             Asked::Buffer => self.buffer,
             Asked::Either => self.buffers || self.buffer,
             Asked::Nicklist => self.nicklist,
+            Asked::Trims => self.trims,
             Asked::Nothing => false,
         }
     }

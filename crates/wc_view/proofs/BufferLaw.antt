@@ -16,7 +16,7 @@ use Rattle.wc_buffers.proofs.RefusalLemmas.{there_good, close_good, move_good, m
 use Rattle.wc_world.proofs.GroupRows.{row_of-append, or_some, no_row, some_row, merged_apart, has-take_out, row_of-update}
 use Rattle.wc_model.specs.declared.change.Flip.{Flip}
 use Rattle.wc_model.specs.declared.change.What.{What}
-use Rattle.wc_model.specs.declared.change.What.TheVariants.{Add, Close, MoveTo, MergeInto, Unmerge, Hide, Unhide, Rename, ShortName, Title, SetVar, RemoveVar, Print, Clear, Flips, AddGroup, AddNick, RemoveGroup, RemoveNick, ChangeGroup, ChangeNick}
+use Rattle.wc_model.specs.declared.change.What.TheVariants.{Add, Close, MoveTo, MergeInto, Unmerge, Hide, Unhide, Rename, ShortName, Title, SetVar, RemoveVar, Print, Clear, Flips, AddGroup, AddNick, RemoveGroup, RemoveNick, ChangeGroup, ChangeNick, Limit}
 use Rattle.wc_model.specs.declared.notice.EventKind.{EventKind}
 use Rattle.wc_model.specs.declared.notice.EventKind.TheVariants as event
 use Rattle.wc_model.specs.declared.notice.Notice.{Notice}
@@ -27,13 +27,14 @@ use Rattle.wc_model.specs.Order.{order, before_in}
 use Rattle.wc_model.specs.Apply.{refusal_of, after_of, of_buffers, or_else, row_of as new_row}
 use Rattle.wc_model.specs.Notices.{notice_of, notice_at, var_kind, name_in, flips_between}
 use Rattle.wc_objects.specs.declared.object.Object.{Object}
-use Rattle.wc_events.specs.BufferObjects.{event_of, event_objects, objects_of, opened_objects, renamed_objects, title_objects, vars_objects}
+use Rattle.wc_events.specs.BufferObjects.{event_of, event_objects, objects_of, opened_objects, renamed_objects, title_objects, trim_objects, vars_objects}
 use Rattle.wc_view.specs.declared.mirror_buffer.MirrorBuffer.{MirrorBuffer}
 use Rattle.wc_view.specs.declared.told_buffer.ToldBuffer.{ToldBuffer}
 use Rattle.wc_view.specs.Ids.{IsFree}
 use Rattle.wc_view.specs.Grouped.{MirrorGroups, key_of, put_after, move_group_at, merge_groups_at, with_told, with_edit, with_event}
 use Rattle.wc_view.specs.BufferFold.{fold_buffers}
-use Rattle.wc_view.specs.BufferViews.{shown_buffer, shown_groups, HasBuffers, AreGrouped, fold_told_buffers, BufferNoticeShows}
+use Rattle.wc_view.specs.BufferViews.{shown_buffer, shown_groups, HasBuffers, AreGrouped, fold_told_buffers, BufferNoticeShows, BufferTrimShows}
+use Rattle.wc_view.proofs.LineTold.{few_shown}
 use Rattle.wc_view.proofs.NoticeLaw.{other_id, message_of}
 use Rattle.wc_view.proofs.BufferTold.{cut, placed_told, opened_told, renamed_told, title_told, vars_told, opened_folds, renamed_folds, title_folds, added_folds, changed_folds, removed_folds, closing_folds, moved_folds, merged_folds, unmerged_folds, hidden_folds, unhidden_folds}
 use Rattle.wc_view.proofs.BufferPlaces.{once_changed, own_few, parted, moved_place, merged_after, pick_filled}
@@ -239,9 +240,6 @@ open_shows id world buffer spec are free =
     ∙ ap (λ n. shown_groups gs ++ (record (shown_buffer e) { full_name = n } ∷ []) ∷ []) named ∙ sym (map-append (map shown_buffer) gs ((e ∷ []) ∷ [])))
 
 -- ---- a group that is moved
-uncut : (n : ℕ) → n ≤ 2 ^ 31 - 1 → cut n ≡ n
-uncut n l = ap (λ b. cond b n (2 ^ 31 - 1)) (le-leb n (2 ^ 31 - 1) l)
-
 move_shows : (id : List ℕ) (world : World) (buffer : Handle) (n : ℕ) → AreGrouped world → IsFree id → refusal_of world buffer (MoveTo n) ≡ None → Shown id world buffer (MoveTo n)
 unfolding refusal_of after_of objects_of with_edit
 move_shows id world buffer n are free ok =
@@ -253,7 +251,7 @@ move_shows id world buffer n are free ok =
     let room : n - 1 ≤ length (others handle_of h gs) = omega (arith, parted handle_of h gs, own_one, good.2) in
     let at : told.number ≡ n = ap (λ o. unwrap_or (option_map (λ m. m + 1) o) 0) (moved_place handle_of h (n - 1) gs good.0 room) ∙ (let p = good.1 in omega arith) in
     let few : n ≤ 2 ^ 31 - 1 = omega (arith, good.1, good.2, are.few) in
-    let number_is : cut told.number ≡ n = ap cut at ∙ uncut n few in
+    let number_is : cut told.number ≡ n = ap cut at ∙ few_shown n few in
     let shown_room : n - 1 ≤ length (others key_of h (shown_groups gs)) = omega (arith, room, ap length (sym (others-shown h gs)), length-map (others handle_of h gs) (map shown_buffer)) in
     let test : (nat_lt 0 n && nat_le (n - 1) (length (others key_of h (shown_groups gs)))) ≡ true = both _ _ (lt-ltb 0 n good.1) (le-leb (n - 1) (length (others key_of h (shown_groups gs))) shown_room) in
     moved_folds id (Some (shown_groups gs)) told free
@@ -336,12 +334,14 @@ abbrev lines_alone : EventKind → Bool
 lines_alone event.Cleared = true
 lines_alone event.LineAdded = true
 lines_alone event.LineDataChanged = true
+lines_alone event.LinesTrimmed = true
 lines_alone _ = false
 
 other_message : (id : List ℕ) (part : Option MirrorGroups) (kind : EventKind) (objects : List Object) → IsFree id → lines_alone kind ≡ true → fold_buffers id part (message_of kind objects) ≡ part
 other_message id part event.Cleared objects free e = rw (other_id (codes "buffer_cleared") id free) refl
 other_message id part event.LineAdded objects free e = rw (other_id (codes "buffer_line_added") id free) refl
 other_message id part event.LineDataChanged objects free e = rw (other_id (codes "buffer_line_data_changed") id free) refl
+other_message id part event.LinesTrimmed objects free e = rw (other_id (codes "buffer_lines_trimmed") id free) refl
 other_message id part event.Opened objects free e = absurd (let z = e in cc)
 other_message id part event.Moved objects free e = absurd (let z = e in cc)
 other_message id part event.Merged objects free e = absurd (let z = e in cc)
@@ -357,6 +357,7 @@ other_message id part event.Closing objects free e = absurd (let z = e in cc)
 other_message id part event.Nicklist objects free e = absurd (let z = e in cc)
 other_message id part event.NicklistDiff objects free e = absurd (let z = e in cc)
 other_message id part event.NickTouched objects free e = absurd (let z = e in cc)
+other_message id part event.LimitSet objects free e = absurd (let z = e in cc)
 
 other_told : (id : List ℕ) (part : Option MirrorGroups) (kind : EventKind) (objects : Option (List Object)) → IsFree id → lines_alone kind ≡ true → fold_told_buffers id part (option_map (message_of kind) objects) ≡ part
 other_told id part kind None free e = refl
@@ -388,8 +389,13 @@ change_shows id world buffer (RemoveGroup name) are free ok = refl
 change_shows id world buffer (RemoveNick name) are free ok = refl
 change_shows id world buffer (ChangeGroup item) are free ok = refl
 change_shows id world buffer (ChangeNick item) are free ok = refl
+change_shows id world buffer (Limit limit) are free ok = refl
 
 pub notice_shows : BufferNoticeShows
 notice_shows id part world change are free accepted had =
     subst (λ p. HasBuffers (fold_told_buffers id p (event_of (after_of world change.buffer change.what) (notice_of world (after_of world change.buffer change.what) change.buffer change.what))) (after_of world change.buffer change.what)) (sym had)
     (change_shows id world change.buffer change.what are free accepted)
+
+pub trim_shows : BufferTrimShows
+unfolding objects_of
+trim_shows id part world trim free = other_message id part event.LinesTrimmed (trim_objects trim) free refl

@@ -1,11 +1,10 @@
 -- The dump of the lines of a world is folded to these lines.
-use Rattle.std.proofs.Common.{◌≡◌, ◌⊎◌, inl, inr, ℕ, ◌≤◌, ◌+◌, true, false, List, [], ◌∷◌, ◌++◌, map, codes, Option, Some, refl, sym, ap, subst, ◌∙◌, arith, eqb}
+use Rattle.std.proofs.Common.{◌≡◌, ◌⊎◌, inl, inr, ℕ, ◌≤◌, ◌+◌, true, false, List, [], ◌∷◌, ◌++◌, map, codes, Option, Some, None, refl, sym, ap, subst, ◌∙◌, arith, eqb}
 use Rattle.std.specs.List.{flat_map}
 use Rattle.std.proofs.lemmas.Bool.{eq-eqb, eqb-true}
 use Rattle.std.proofs.lemmas.List.{length-map, append-nil}
 use Rattle.wc_text.specs.declared.names.Handle.{Handle}
 use Rattle.wc_lines.specs.declared.line.Line.{Line}
-use Rattle.wc_lines.specs.Ring.{last_of}
 use Rattle.wc_buffers.specs.declared.row.BufferEntry.{BufferEntry}
 use Rattle.wc_buffers.specs.Groups.{rows, times, times_in, has}
 use Rattle.wc_buffers.specs.Calls.{EntryGroups, handle_of}
@@ -16,9 +15,9 @@ use Rattle.wc_events.specs.LineObjects.{dumped_item, dumped_lines, line_dump}
 use Rattle.wc_view.specs.declared.rows.LineRow.{LineRow}
 use Rattle.wc_view.specs.Each.{each}
 use Rattle.wc_view.specs.Rows.{row_in, rows_on}
-use Rattle.wc_view.specs.Parts.{Part, lines_of, part_of}
+use Rattle.wc_view.specs.Parts.{Part, kept_lines, lines_of, part_of}
 use Rattle.wc_view.specs.Fold.{fold_lines, with_dump}
-use Rattle.wc_view.specs.Views.{shown_line, view_of, HasLines, IsMirrorable, reply, DumpShows}
+use Rattle.wc_view.specs.Views.{shown_line, view_of, HasLines, IsMirrorable, Suits, reply, DumpShows}
 use Rattle.wc_view.proofs.EntryLemmas.{by_bool, last_all}
 use Rattle.wc_view.proofs.PartLemmas.{part_lines}
 use Rattle.wc_view.proofs.LineTold.{row, dumped_told, rows_told, same_bytes}
@@ -44,7 +43,7 @@ dump_read : (world : World) → rows_on (codes "buffer/lines/line/line_data") (l
 dump_read world =
     rows_told (codes "buffer/lines/line/line_data") (flat_map (dumped_lines world) (rows world.groups)) refl ∙ each_dumped world (rows world.groups)
 
-after_dump : (limit : ℕ) (id : List ℕ) (part : Option Part) (world : World) → fold_lines limit id part (reply id world) ≡ Some (part_of limit (all_rows world))
+after_dump : (limit : Option ℕ) (id : List ℕ) (part : Option Part) (world : World) → fold_lines limit id part (reply id world) ≡ Some (part_of limit (all_rows world))
 after_dump limit id part world = rw (same_bytes id) (ap (λ told. with_dump limit told part) (dump_read world))
 
 -- ---- the lines of one buffer in it
@@ -77,7 +76,7 @@ once_there world q (e ∷ es) n = by_bool (eqb (handle_of e) q) _
     (λ t. let z : 0 + times_in handle_of q es ≡ 1 = rw t at n in
     lines_else e.row.handle q (lines_in world e.row.handle.0) (flat_map (entry_rows world) es) t ∙ once_there world q es (omega arith))
 
-times_rows : (q : ℕ) (groups : EntryGroups) → times_in handle_of q (rows groups) ≡ times handle_of q groups
+pub times_rows : (q : ℕ) (groups : EntryGroups) → times_in handle_of q (rows groups) ≡ times handle_of q groups
 times_rows q [] = refl
 times_rows q (g ∷ groups) = omega (arith, times_in-append handle_of q g (rows groups), times_rows q groups)
 
@@ -89,8 +88,13 @@ all_lines world q stands = by (has_tells handle_of q world.groups)
     by (inl there) = once_there world q (rows world.groups) (omega (arith, times_rows q world.groups, stands.once q, there.1))
     by (inr else) = none_there world q (rows world.groups) (times_rows q world.groups ∙ else.1) ∙ ap view_of (sym (stands.gone q else.0))
 
+-- a buffer holds no more lines than the limit
+all_kept : (limit : Option ℕ) (world : World) (q : ℕ) → IsMirrorable world → Suits limit world → kept_lines limit (view_of (lines_in world q)) ≡ view_of (lines_in world q)
+all_kept None world q stands limited = refl
+all_kept (Some n) world q stands limited =
+    last_all n (view_of (lines_in world q)) (omega (arith, length-map (lines_in world q) shown_line, stands.within q, limited))
+
 pub dump_shows : DumpShows
 dump_shows limit id part world stands limited q =
     subst (λ folded. HasLines folded q (lines_in world q)) (sym (after_dump limit id part world))
-    (part_lines limit q (all_rows world) ∙ ap (last_of limit) (all_lines world q stands)
-    ∙ last_all limit (view_of (lines_in world q)) (omega (arith, length-map (lines_in world q) shown_line, stands.within q, limited)))
+    (part_lines limit q (all_rows world) ∙ ap (kept_lines limit) (all_lines world q stands) ∙ all_kept limit world q stands limited)

@@ -1,5 +1,5 @@
 -- Edits of the entries seen as the lines of each buffer.
-use Rattle.std.proofs.Common.{◌≡◌, ℕ, ◌<◌, Bool, false, cond, List, [], ◌∷◌, length, get_or, set, Some, None, refl, sym, ap, ◌∙◌, eqb}
+use Rattle.std.proofs.Common.{◌≡◌, ℕ, ◌<◌, Bool, false, cond, List, [], ◌∷◌, length, drop, get_or, set, Some, None, refl, sym, ap, ◌∙◌, eqb}
 use Rattle.std.specs.Prelude.{not}
 use Rattle.std.specs.List.{filter}
 use Rattle.std.specs.FinMap.{find, get, get-remove, get-from_entries, same_map, nat_cmp-IsAntisymmetric}
@@ -7,8 +7,9 @@ use Rattle.std.specs.Ordering.{nat_cmp}
 use Rattle.std.specs.Cmp.{nat_cmp_total}
 use Rattle.std.proofs.lemmas.Bool.{eqb-true}
 use Rattle.wc_view.specs.declared.flags.LineFlag.{LineFlag}
+use Rattle.wc_view.specs.declared.trims.LineTrim.{LineTrim}
 use Rattle.wc_view.specs.Entries.{Entry, part_at, IsEntry}
-use Rattle.wc_view.specs.Parts.{without, with_line_flag, flagged_in, with_flag}
+use Rattle.wc_view.specs.Parts.{without, with_line_flag, flagged_in, with_flag, trimmed_in, with_trim}
 use Rattle.wc_view.proofs.EntryLemmas.{by_bool, tied, find_here, entry_set}
 
 -- ---- a buffer that goes
@@ -44,3 +45,17 @@ flag_at i es b b2 flag l e is new =
 
 pub flag_nowhere : (es : List Entry) (flag : LineFlag) → find nat_cmp flag.buffer es ≡ None → part_at es ≡ with_flag (part_at es) flag
 flag_nowhere es flag n = sym (ap (flagged_in flag (part_at es)) (get-from_entries nat_cmp_total es flag.buffer ∙ n))
+
+-- ---- lines that went
+pub trim_at : (i : ℕ) (es : List Entry) (b b2 : Entry) (trim : LineTrim) → i < length es → IsEntry trim.buffer i es → b ≡ get_or es i b
+    → b2 ≡ (b.0, drop trim.count b.1) → part_at (set es i b2) ≡ with_trim trim (part_at es)
+trim_at i es b b2 trim l e is new =
+    let k : b.0 ≡ trim.buffer = ap (λ (z : Entry). z.0) is ∙ e.at b in
+    let held : get (part_at es) trim.buffer ≡ Some b.1 =
+    get-from_entries nat_cmp_total es trim.buffer ∙ find_here trim.buffer i es b l (e.at b) e.before ∙ ap (λ (z : Entry). Some z.1) (sym is) in
+    ap (λ z. part_at (set es i z)) (new ∙ λ j. (k j, drop trim.count b.1))
+    ∙ entry_set trim.buffer i es (drop trim.count b.1) b l e
+    ∙ sym (ap (trimmed_in trim (part_at es)) held)
+
+pub trim_nowhere : (es : List Entry) (trim : LineTrim) → find nat_cmp trim.buffer es ≡ None → part_at es ≡ with_trim trim (part_at es)
+trim_nowhere es trim n = sym (ap (trimmed_in trim (part_at es)) (get-from_entries nat_cmp_total es trim.buffer ∙ n))

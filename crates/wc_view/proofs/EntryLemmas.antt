@@ -1,5 +1,5 @@
 -- A list of entries seen as the lines of each buffer.
-use Rattle.std.proofs.Common.{◌≡◌, ℕ, zero, suc, ◌+◌, ◌-◌, ◌<◌, ◌≤◌, Bool, true, false, cond, Some, None, List, [], ◌∷◌, ◌++◌, length, take, drop, get_or, set, refl, sym, ap, ◌∙◌, arith, eqb}
+use Rattle.std.proofs.Common.{◌≡◌, ℕ, zero, suc, ◌+◌, ◌-◌, ◌<◌, ◌≤◌, Bool, true, false, cond, Option, Some, None, List, [], ◌∷◌, ◌++◌, length, take, drop, get_or, set, refl, sym, ap, ◌∙◌, arith, eqb}
 use Rattle.std.specs.Prelude.{unwrap_or}
 use Rattle.std.proofs.lemmas.List.{take_more}
 use Rattle.std.proofs.lemmas.Bool.{eq-eqb}
@@ -11,7 +11,7 @@ use Rattle.wc_lines.specs.Ring.{last_of}
 use Rattle.wc_view.specs.declared.mirror_buffer.MirrorLine.{MirrorLine}
 use Rattle.wc_view.specs.declared.rows.LineRow.{LineRow}
 use Rattle.wc_view.specs.Entries.{Entry, part_at, IsEntry}
-use Rattle.wc_view.specs.Parts.{lines_at, with_row}
+use Rattle.wc_view.specs.Parts.{lines_at, kept_lines, with_row}
 
 pub by_bool : (b : Bool) (P : Type 0) → (b ≡ true → P) → (b ≡ false → P) → P
 by_bool true P at_true at_false = at_true refl
@@ -23,6 +23,14 @@ last_all n xs l = let e : length xs - n ≡ 0 = omega arith in ap (λ k. drop k 
 pub last_shorter : {X : Type 0} (n : ℕ) (xs : List X) → n < length xs → last_of n (drop 1 xs) ≡ last_of n xs
 last_shorter n [] l = absurd (omega arith)
 last_shorter n (x ∷ xs) l = let e : length (x ∷ xs) - n ≡ suc (length xs - n) = omega arith in ap (λ k. drop k (x ∷ xs)) (sym e)
+
+-- the last ones but so many, which are those after so many
+pub last_rest : {X : Type 0} (n : ℕ) (xs : List X) → last_of (length xs - n) xs ≡ drop n xs
+last_rest zero xs = let e : length xs - (length xs - 0) ≡ 0 = omega arith in ap (λ k. drop k xs) e
+last_rest (suc n) [] = let e : 0 - (0 - suc n) ≡ 0 = omega arith in ap (λ k. drop k []) e
+last_rest (suc n) (x ∷ xs) =
+    let e : length (x ∷ xs) - (length (x ∷ xs) - suc n) ≡ suc (length xs - (length xs - n)) = omega arith in
+    ap (λ k. drop k (x ∷ xs)) e ∙ last_rest n xs
 
 pub tied : (q h : ℕ) → eq_by_cmp nat_cmp q h ≡ eqb q h
 tied q h = unsigned_tied q h
@@ -77,19 +85,19 @@ none_shown h es e = sym (no_entry h es e)
 entry_push : (h : ℕ) (es : List Entry) (v : List MirrorLine) → find nat_cmp h es ≡ None → part_at (es ++ (h, v) ∷ []) ≡ insert (part_at es) h v
 entry_push h es v e = from_entries_push nat_cmp_total nat_cmp-IsAntisymmetric es h v e
 
-pub row_at : (i limit : ℕ) (es : List Entry) (b b2 : Entry) (row : LineRow) → i < length es → IsEntry row.buffer i es → b ≡ get_or es i b
-    → b2 ≡ (b.0, last_of limit (b.1 ++ row.line ∷ [])) → part_at (set es i b2) ≡ with_row limit row (part_at es)
+pub row_at : (i : ℕ) (limit : Option ℕ) (es : List Entry) (b b2 : Entry) (row : LineRow) → i < length es → IsEntry row.buffer i es → b ≡ get_or es i b
+    → b2 ≡ (b.0, kept_lines limit (b.1 ++ row.line ∷ [])) → part_at (set es i b2) ≡ with_row limit row (part_at es)
 row_at i limit es b b2 row l e is new =
     let k : b.0 ≡ row.buffer = ap (λ (z : Entry). z.0) is ∙ e.at b in
     let v : b.1 ≡ lines_at (part_at es) row.buffer = ap (λ (z : Entry). z.1) is ∙ sym (entry_lines row.buffer i es b l e) in
-    ap (λ z. part_at (set es i z)) (new ∙ λ j. (k j, last_of limit (v j ++ row.line ∷ [])))
-    ∙ entry_set row.buffer i es (last_of limit (lines_at (part_at es) row.buffer ++ row.line ∷ [])) b l e
+    ap (λ z. part_at (set es i z)) (new ∙ λ j. (k j, kept_lines limit (v j ++ row.line ∷ [])))
+    ∙ entry_set row.buffer i es (kept_lines limit (lines_at (part_at es) row.buffer ++ row.line ∷ [])) b l e
 
-pub row_new : (limit : ℕ) (es : List Entry) (b : Entry) (row : LineRow) → find nat_cmp row.buffer es ≡ None
-    → b ≡ (row.buffer, last_of limit ([] ++ row.line ∷ [])) → part_at (es ++ b ∷ []) ≡ with_row limit row (part_at es)
+pub row_new : (limit : Option ℕ) (es : List Entry) (b : Entry) (row : LineRow) → find nat_cmp row.buffer es ≡ None
+    → b ≡ (row.buffer, kept_lines limit ([] ++ row.line ∷ [])) → part_at (es ++ b ∷ []) ≡ with_row limit row (part_at es)
 row_new limit es b row n new =
-    ap (λ z. part_at (es ++ z ∷ [])) (new ∙ ap (λ z. (row.buffer, last_of limit (z ++ row.line ∷ []))) (sym (no_entry row.buffer es n)))
-    ∙ entry_push row.buffer es (last_of limit (lines_at (part_at es) row.buffer ++ row.line ∷ [])) n
+    ap (λ z. part_at (es ++ z ∷ [])) (new ∙ ap (λ z. (row.buffer, kept_lines limit (z ++ row.line ∷ []))) (sym (no_entry row.buffer es n)))
+    ∙ entry_push row.buffer es (kept_lines limit (lines_at (part_at es) row.buffer ++ row.line ∷ [])) n
 
 -- what `keep_last` needs
 pub ruleset keep_last_facts = (last_all, last_shorter)

@@ -19,13 +19,13 @@ use Rattle.wc_buffers.specs.Calls.{EntryGroups, handle_of, with_entry, with_full
 use Rattle.wc_buffers.proofs.GroupLaws.{has-map}
 use Rattle.wc_model.specs.declared.change.Flip.{Flip}
 use Rattle.wc_model.specs.declared.change.What.{What}
-use Rattle.wc_model.specs.declared.change.What.TheVariants.{Add, Close, MoveTo, MergeInto, Unmerge, Hide, Unhide, Rename, ShortName, Title, SetVar, RemoveVar, Print, Clear, Flips, AddGroup, AddNick, RemoveGroup, RemoveNick, ChangeGroup, ChangeNick}
+use Rattle.wc_model.specs.declared.change.What.TheVariants.{Add, Close, MoveTo, MergeInto, Unmerge, Hide, Unhide, Rename, ShortName, Title, SetVar, RemoveVar, Print, Clear, Flips, AddGroup, AddNick, RemoveGroup, RemoveNick, ChangeGroup, ChangeNick, Limit}
 use Rattle.wc_model.specs.declared.notice.EventKind.TheVariants as kind
 use Rattle.wc_model.specs.World.{World, lines_at as lines_in}
 use Rattle.wc_model.specs.Order.{order}
 use Rattle.wc_model.specs.Apply.{with_flips, after_of}
 use Rattle.wc_model.specs.Notices.{bool_eq, same_flag, is_flipped as differs, flips_in, flips_between, notice_of}
-use Rattle.wc_events.specs.BufferObjects.{event_of, objects_of, is_flipped, flag_keys, flag_item, flag_items, flag_objects}
+use Rattle.wc_events.specs.BufferObjects.{objects_of, is_flipped, flag_keys, flag_item, flag_items, flag_objects}
 use Rattle.wc_view.specs.declared.mirror_buffer.MirrorLine.{MirrorLine}
 use Rattle.wc_view.specs.declared.flags.LineFlag.{LineFlag}
 use Rattle.wc_view.specs.Each.{each}
@@ -33,11 +33,12 @@ use Rattle.wc_view.specs.Ids.{IsFree}
 use Rattle.wc_view.specs.Flags.{flag_in, flags_on}
 use Rattle.wc_view.specs.Parts.{Part, lines_at, flagged_line, with_line_flag, flagged_in, with_flag, with_flags}
 use Rattle.wc_view.specs.Fold.{fold_lines, with_shown_flags}
-use Rattle.wc_view.specs.Views.{shown_line, view_of, HasLines, HasAll, IsMirrorable, SetsNoFlags, fold_told}
-use Rattle.wc_view.specs.Flipped.{flag_message, flag_event, flag_events, ContentsDiffer, fold_all, FlipsShow}
+use Rattle.wc_view.specs.Views.{shown_line, view_of, HasLines, HasAll, IsMirrorable, Suits, SetsNoFlags, fold_all, heard_parts, part_events}
+use Rattle.wc_view.specs.Flipped.{flag_message, flag_event, flag_events, ContentsDiffer, FlipsShow}
 use Rattle.wc_view.proofs.EntryLemmas.{by_bool, tied}
 use Rattle.wc_view.proofs.LineTold.{pointer_told, truth_told, items_told}
-use Rattle.wc_view.proofs.NoticeLaw.{other_id, nothing_flipped, flipped_lines, quiet_told, told_of, change_shows}
+use Rattle.wc_view.proofs.NoticeLaw.{other_id, nothing_flipped, flipped_lines, quiet_told, told_alone, told_of, change_shows}
+use Rattle.wc_view.proofs.TrimTold.{HasThese, these, from_lines}
 
 -- ---- what is read of an event of flags
 abbrev flag_of : ℕ → Line → LineFlag
@@ -59,7 +60,7 @@ flags_told buffer flips lines =
     ap (option_and_then (each flag_in)) (items_told (codes "line_data") flag_keys (flag_items (record { 0 = buffer }) flips lines) refl refl)
     ∙ each_told buffer (filter (is_flipped flips) lines)
 
-after_flags : (limit : ℕ) (id : List ℕ) (held : Part) (buffer : ℕ) (flips : List Handle) (lines : List Line) → IsFree id
+after_flags : (limit : Option ℕ) (id : List ℕ) (held : Part) (buffer : ℕ) (flips : List Handle) (lines : List Line) → IsFree id
     → fold_lines limit id (Some held) (flag_message buffer flips lines) ≡ Some (with_flags held (flags_of buffer flips lines))
 after_flags limit id held buffer flips lines free =
     rw (other_id (codes "buffer_line_data_changed") id free) (ap (λ flags. with_shown_flags flags (Some held)) (flags_told buffer flips lines))
@@ -194,22 +195,10 @@ all_shown flips buffer (x ∷ held) (line ∷ lines) a apart =
     λ i. here_flagged flips buffer x line lines a.0 apart.0 i ∷ rest i
 
 -- ---- one event after another
-abbrev HasThese : Option Part → ℕ → List MirrorLine → Type 0
-HasThese None buffer lines = ⊥
-HasThese (Some held) buffer lines = lines_at held buffer ≡ lines
-
-these : (part : Option Part) (q : ℕ) (lines : List Line) → HasThese part q (view_of lines) → HasLines part q lines
-these None q lines h = absurd h
-these (Some held) q lines h = h
-
-from_lines : (part : Option Part) (q : ℕ) (lines : List Line) → HasLines part q lines → HasThese part q (view_of lines)
-from_lines None q lines h = absurd h
-from_lines (Some held) q lines h = h
-
 abbrev with_lines_of : World → ℕ → (ℕ → List MirrorLine) → ℕ → List MirrorLine
 with_lines_of world buffer now q = cond (eqb q buffer) (view_of (lines_in world buffer)) (now q)
 
-one_event : (limit : ℕ) (id : List ℕ) (part : Option Part) (world : World) (flips : List Handle) (now : ℕ → List MirrorLine) (buffer : ℕ) → IsFree id
+one_event : (limit : Option ℕ) (id : List ℕ) (part : Option Part) (world : World) (flips : List Handle) (now : ℕ → List MirrorLine) (buffer : ℕ) → IsFree id
     → ContentsDiffer (lines_in world buffer) → Alike flips (now buffer) (lines_in world buffer) → ((q : ℕ) → HasThese part q (now q))
     → (q : ℕ) → HasThese (fold_all limit id part (flag_event world flips buffer)) q (with_lines_of world buffer now q)
 one_event limit id None world flips now buffer free apart like has q = absurd (has 0)
@@ -225,7 +214,7 @@ one_event limit id (Some held) world flips now buffer free apart like has q =
     (λ u. rw u (has q ∙ ap now (eqb-true q buffer u) ∙ unflagged flips (now buffer) (lines_in world buffer) like t))
     (λ u. rw u (has q))))
 
-all_events : (limit : ℕ) (id : List ℕ) (world : World) (flips : List Handle) → IsFree id → ((q : ℕ) → ContentsDiffer (lines_in world q))
+all_events : (limit : Option ℕ) (id : List ℕ) (world : World) (flips : List Handle) → IsFree id → ((q : ℕ) → ContentsDiffer (lines_in world q))
     → (buffers : List ℕ) (part : Option Part) (now : ℕ → List MirrorLine) → ((q : ℕ) → Alike flips (now q) (lines_in world q)) → ((q : ℕ) → HasThese part q (now q))
     → (q : ℕ) → (list_any (λ b. eqb b q) buffers ≡ true) ⊎ (now q ≡ view_of (lines_in world q))
     → HasLines (fold_all limit id part (flat_map (flag_event world flips) buffers)) q (lines_in world q)
@@ -399,7 +388,7 @@ flagged_like flips world following stands groups lines apart q = by_bool (has ha
     same = subst (SameBut (lines_in world q)) (sym (lines q)) (same_flipped flips (lines_in world q) (lines_in world q) (same_self (lines_in world q)))
 
 -- ---- the law
-flags_show : (limit : ℕ) (id : List ℕ) (part : Option Part) (world following : World) (told : List Handle) → IsFree id → ((q : ℕ) → ContentsDiffer (lines_in following q))
+flags_show : (limit : Option ℕ) (id : List ℕ) (part : Option Part) (world following : World) (told : List Handle) → IsFree id → ((q : ℕ) → ContentsDiffer (lines_in following q))
     → ((q : ℕ) → Alike told (view_of (lines_in world q)) (lines_in following q))
     → ((q : ℕ) → (has handle_of q following.groups ≡ true) ⊎ (lines_in world q ≡ lines_in following q))
     → HasAll part world → HasAll (fold_all limit id part (flag_events following told)) following
@@ -411,7 +400,7 @@ flags_show limit id part world following told free apart like there had q =
     by (inl t) = inl (in_order q following.groups ∙ t)
     by (inr e) = inr (ap view_of e)
 
-flagged_show : (limit : ℕ) (id : List ℕ) (part folded : Option Part) (world following : World) (flips : List Flip) → IsMirrorable world → IsFree id
+flagged_show : (limit : Option ℕ) (id : List ℕ) (part folded : Option Part) (world following : World) (flips : List Flip) → IsMirrorable world → IsFree id
     → ((q : ℕ) → has handle_of q following.groups ≡ has handle_of q world.groups) → ((q : ℕ) → lines_in following q ≡ with_flips flips (lines_in world q))
     → ((q : ℕ) → ContentsDiffer (lines_in following q)) → HasAll part world → folded ≡ part
     → HasAll (fold_all limit id folded (flag_events following (flips_between world following))) following
@@ -425,18 +414,23 @@ flagged_show limit id part folded world following flips stands free groups lines
         (λ t. let none : lines_in world q ≡ [] = stands.gone q (sym (groups q) ∙ t) in
         inr (none ∙ sym (lines q ∙ ap (with_flips flips) none ∙ nothing_flipped flips)))
 
-abbrev AllShow : ℕ → List ℕ → Option Part → World → Handle → What → Type 0
+-- the lines after the events of a change
+abbrev events_told : Option ℕ → List ℕ → Option Part → World → Handle → What → Option Part
+events_told limit id part world buffer what =
+    fold_all limit id part (part_events (after_of world buffer what) (heard_parts limit (after_of world buffer what) (notice_of world (after_of world buffer what) buffer what)))
+
+abbrev AllShow : Option ℕ → List ℕ → Option Part → World → Handle → What → Type 0
 AllShow limit id part world buffer what =
-    HasAll (fold_all limit id (fold_told limit id part (event_of (after_of world buffer what) (notice_of world (after_of world buffer what) buffer what)))
+    HasAll (fold_all limit id (events_told limit id part world buffer what)
     (flag_events (after_of world buffer what) (flips_between world (after_of world buffer what)))) (after_of world buffer what)
 
-plain_shows : (limit : ℕ) (id : List ℕ) (part : Option Part) (world : World) (buffer : Handle) (what : What) → IsMirrorable world → world.limit ≡ limit → IsFree id
+plain_shows : (limit : Option ℕ) (id : List ℕ) (part : Option Part) (world : World) (buffer : Handle) (what : What) → IsMirrorable world → Suits limit world → Suits limit (after_of world buffer what) → IsFree id
     → ((q : ℕ) → ContentsDiffer (lines_in (after_of world buffer what) q)) → SetsNoFlags what → HasAll part world → AllShow limit id part world buffer what
-plain_shows limit id part world buffer what stands limited free apart plain had =
+plain_shows limit id part world buffer what stands limited still free apart plain had =
     let following = after_of world buffer what in
-    flags_show limit id (fold_told limit id part (event_of following (notice_of world following buffer what))) following following (flips_between world following) free apart
+    flags_show limit id (events_told limit id part world buffer what) following following (flips_between world following) free apart
     (λ q. alike_view (flips_between world following) (lines_in following q)) (λ q. inr refl)
-    (change_shows limit id part world buffer what stands limited free plain had)
+    (change_shows limit id part world buffer what stands limited still free plain had)
 
 renamed_has : (q : ℕ) (buffer : Handle) (name : List ℕ) (groups : EntryGroups) → has handle_of q (with_entry buffer (with_full_name name) groups) ≡ has handle_of q groups
 renamed_has q buffer name groups = has-map renamed handle_of handle_of kept q groups
@@ -447,44 +441,47 @@ renamed_has q buffer name groups = has-map renamed handle_of handle_of kept q gr
     kept : (e : BufferEntry) → handle_of (cond (eqb (handle_of e) buffer.0) (with_full_name name e) e) ≡ handle_of e
     kept e = by_bool (eqb (handle_of e) buffer.0) _ (λ t. rw t refl) (λ t. rw t refl)
 
-renamed_shows : (limit : ℕ) (id : List ℕ) (part : Option Part) (world : World) (buffer : Handle) (name : List ℕ) (flips : List Flip) → IsMirrorable world → IsFree id
+renamed_shows : (limit : Option ℕ) (id : List ℕ) (part : Option Part) (world : World) (buffer : Handle) (name : List ℕ) (flips : List Flip) → IsMirrorable world → IsFree id
     → ((q : ℕ) → ContentsDiffer (lines_in (after_of world buffer (Rename name flips)) q)) → HasAll part world → AllShow limit id part world buffer (Rename name flips)
 unfolding after_of
 renamed_shows limit id part world buffer name flips stands free apart had =
     flagged_show limit id part _ world (after_of world buffer (Rename name flips)) flips stands free
     (λ q. renamed_has q buffer name world.groups) (flipped_lines flips world (after_of world buffer (Rename name flips)) refl) apart had
-    (quiet_told limit id part kind.Renamed (told_of world buffer (Rename name flips)) refl free)
+    (told_alone limit id part (after_of world buffer (Rename name flips)) (notice_of world (after_of world buffer (Rename name flips)) buffer (Rename name flips)) refl
+    ∙ quiet_told limit id part kind.Renamed (told_of world buffer (Rename name flips)) refl free)
 
-flips_shows : (limit : ℕ) (id : List ℕ) (part : Option Part) (world : World) (buffer : Handle) (flips : List Flip) → IsMirrorable world → IsFree id
+flips_shows : (limit : Option ℕ) (id : List ℕ) (part : Option Part) (world : World) (buffer : Handle) (flips : List Flip) → IsMirrorable world → IsFree id
     → ((q : ℕ) → ContentsDiffer (lines_in (after_of world buffer (Flips flips)) q)) → HasAll part world → AllShow limit id part world buffer (Flips flips)
 unfolding after_of objects_of
 flips_shows limit id part world buffer flips stands free apart had =
-    flagged_show limit id part part world (after_of world buffer (Flips flips)) flips stands free
-    (λ q. refl) (flipped_lines flips world (after_of world buffer (Flips flips)) refl) apart had refl
+    flagged_show limit id part _ world (after_of world buffer (Flips flips)) flips stands free
+    (λ q. refl) (flipped_lines flips world (after_of world buffer (Flips flips)) refl) apart had
+    (told_alone limit id part (after_of world buffer (Flips flips)) (notice_of world (after_of world buffer (Flips flips)) buffer (Flips flips)) refl)
 
-all_show : (limit : ℕ) (id : List ℕ) (part : Option Part) (world : World) (buffer : Handle) (what : What) → IsMirrorable world → world.limit ≡ limit → IsFree id
+all_show : (limit : Option ℕ) (id : List ℕ) (part : Option Part) (world : World) (buffer : Handle) (what : What) → IsMirrorable world → Suits limit world → Suits limit (after_of world buffer what) → IsFree id
     → ((q : ℕ) → ContentsDiffer (lines_in (after_of world buffer what) q)) → HasAll part world → AllShow limit id part world buffer what
-all_show limit id part world buffer (Add spec) stands limited free apart had = plain_shows limit id part world buffer (Add spec) stands limited free apart tt had
-all_show limit id part world buffer Close stands limited free apart had = plain_shows limit id part world buffer Close stands limited free apart tt had
-all_show limit id part world buffer (MoveTo number) stands limited free apart had = plain_shows limit id part world buffer (MoveTo number) stands limited free apart tt had
-all_show limit id part world buffer (MergeInto into) stands limited free apart had = plain_shows limit id part world buffer (MergeInto into) stands limited free apart tt had
-all_show limit id part world buffer Unmerge stands limited free apart had = plain_shows limit id part world buffer Unmerge stands limited free apart tt had
-all_show limit id part world buffer Hide stands limited free apart had = plain_shows limit id part world buffer Hide stands limited free apart tt had
-all_show limit id part world buffer Unhide stands limited free apart had = plain_shows limit id part world buffer Unhide stands limited free apart tt had
-all_show limit id part world buffer (ShortName name) stands limited free apart had = plain_shows limit id part world buffer (ShortName name) stands limited free apart tt had
-all_show limit id part world buffer (Title title) stands limited free apart had = plain_shows limit id part world buffer (Title title) stands limited free apart tt had
-all_show limit id part world buffer (SetVar var) stands limited free apart had = plain_shows limit id part world buffer (SetVar var) stands limited free apart tt had
-all_show limit id part world buffer (RemoveVar name) stands limited free apart had = plain_shows limit id part world buffer (RemoveVar name) stands limited free apart tt had
-all_show limit id part world buffer (Print line) stands limited free apart had = plain_shows limit id part world buffer (Print line) stands limited free apart tt had
-all_show limit id part world buffer Clear stands limited free apart had = plain_shows limit id part world buffer Clear stands limited free apart tt had
-all_show limit id part world buffer (Rename name flips) stands limited free apart had = renamed_shows limit id part world buffer name flips stands free apart had
-all_show limit id part world buffer (Flips flips) stands limited free apart had = flips_shows limit id part world buffer flips stands free apart had
-all_show limit id part world buffer (AddGroup parent item) stands limited free apart had = plain_shows limit id part world buffer (AddGroup parent item) stands limited free apart tt had
-all_show limit id part world buffer (AddNick group item) stands limited free apart had = plain_shows limit id part world buffer (AddNick group item) stands limited free apart tt had
-all_show limit id part world buffer (RemoveGroup name) stands limited free apart had = plain_shows limit id part world buffer (RemoveGroup name) stands limited free apart tt had
-all_show limit id part world buffer (RemoveNick name) stands limited free apart had = plain_shows limit id part world buffer (RemoveNick name) stands limited free apart tt had
-all_show limit id part world buffer (ChangeGroup item) stands limited free apart had = plain_shows limit id part world buffer (ChangeGroup item) stands limited free apart tt had
-all_show limit id part world buffer (ChangeNick item) stands limited free apart had = plain_shows limit id part world buffer (ChangeNick item) stands limited free apart tt had
+all_show limit id part world buffer (Add spec) stands limited still free apart had = plain_shows limit id part world buffer (Add spec) stands limited still free apart tt had
+all_show limit id part world buffer Close stands limited still free apart had = plain_shows limit id part world buffer Close stands limited still free apart tt had
+all_show limit id part world buffer (MoveTo number) stands limited still free apart had = plain_shows limit id part world buffer (MoveTo number) stands limited still free apart tt had
+all_show limit id part world buffer (MergeInto into) stands limited still free apart had = plain_shows limit id part world buffer (MergeInto into) stands limited still free apart tt had
+all_show limit id part world buffer Unmerge stands limited still free apart had = plain_shows limit id part world buffer Unmerge stands limited still free apart tt had
+all_show limit id part world buffer Hide stands limited still free apart had = plain_shows limit id part world buffer Hide stands limited still free apart tt had
+all_show limit id part world buffer Unhide stands limited still free apart had = plain_shows limit id part world buffer Unhide stands limited still free apart tt had
+all_show limit id part world buffer (ShortName name) stands limited still free apart had = plain_shows limit id part world buffer (ShortName name) stands limited still free apart tt had
+all_show limit id part world buffer (Title title) stands limited still free apart had = plain_shows limit id part world buffer (Title title) stands limited still free apart tt had
+all_show limit id part world buffer (SetVar var) stands limited still free apart had = plain_shows limit id part world buffer (SetVar var) stands limited still free apart tt had
+all_show limit id part world buffer (RemoveVar name) stands limited still free apart had = plain_shows limit id part world buffer (RemoveVar name) stands limited still free apart tt had
+all_show limit id part world buffer (Print line) stands limited still free apart had = plain_shows limit id part world buffer (Print line) stands limited still free apart tt had
+all_show limit id part world buffer Clear stands limited still free apart had = plain_shows limit id part world buffer Clear stands limited still free apart tt had
+all_show limit id part world buffer (Rename name flips) stands limited still free apart had = renamed_shows limit id part world buffer name flips stands free apart had
+all_show limit id part world buffer (Flips flips) stands limited still free apart had = flips_shows limit id part world buffer flips stands free apart had
+all_show limit id part world buffer (AddGroup parent item) stands limited still free apart had = plain_shows limit id part world buffer (AddGroup parent item) stands limited still free apart tt had
+all_show limit id part world buffer (AddNick group item) stands limited still free apart had = plain_shows limit id part world buffer (AddNick group item) stands limited still free apart tt had
+all_show limit id part world buffer (RemoveGroup name) stands limited still free apart had = plain_shows limit id part world buffer (RemoveGroup name) stands limited still free apart tt had
+all_show limit id part world buffer (RemoveNick name) stands limited still free apart had = plain_shows limit id part world buffer (RemoveNick name) stands limited still free apart tt had
+all_show limit id part world buffer (ChangeGroup item) stands limited still free apart had = plain_shows limit id part world buffer (ChangeGroup item) stands limited still free apart tt had
+all_show limit id part world buffer (ChangeNick item) stands limited still free apart had = plain_shows limit id part world buffer (ChangeNick item) stands limited still free apart tt had
+all_show limit id part world buffer (Limit most) stands limited still free apart had = plain_shows limit id part world buffer (Limit most) stands limited still free apart tt had
 
 pub flips_show : FlipsShow
-flips_show limit id part world change stands limited free accepted apart had = all_show limit id part world change.buffer change.what stands limited free apart had
+flips_show limit id part world change stands limited still free accepted apart had = all_show limit id part world change.buffer change.what stands limited still free apart had

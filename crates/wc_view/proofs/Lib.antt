@@ -32,3 +32,4 @@ pub mod PartLemmas
 pub mod RunLemmas
 pub mod TakeLemmas
 pub mod TakeNone
+pub mod TrimTold

@@ -1,5 +1,5 @@
 -- What is told of lines is read as it was told.
-use Rattle.std.proofs.Common.{◌≡◌, ℕ, ℤ, Bool, true, false, List, [], ◌∷◌, codes, Some, refl, ap, ◌∙◌}
+use Rattle.std.proofs.Common.{◌≡◌, ℕ, ◌-◌, ◌^◌, ◌≤◌, ℤ, Bool, true, false, cond, List, [], ◌∷◌, codes, Some, refl, ap, ◌∙◌, le-leb}
 use Rattle.std.specs.Prelude.{bytes_eq, pos}
 use Rattle.std.specs.Option.{option_and_then}
 use Rattle.std.proofs.lemmas.Bool.{eq-eqb}
@@ -34,6 +34,10 @@ date_told date = refl
 pub count_told : (number : ℕ) → number_in (o.Int (count number)) ≡ Some (shown_number number)
 unfolding out-Object out
 count_told number = refl
+
+-- a number that a message may hold is told as it is
+pub few_shown : (number : ℕ) → number ≤ 2 ^ 31 - 1 → shown_number number ≡ number
+few_shown number few = ap (λ b. cond b number (2 ^ 31 - 1)) (le-leb number (2 ^ 31 - 1) few)
 
 pub truth_told : (on : Bool) → truth_in (o.Chr (truth on)) ≡ Some on
 unfolding out-Object out

@@ -8,7 +8,7 @@ use Rattle.wc_buffers.specs.Groups.{has, row_of}
 use Rattle.wc_buffers.specs.Calls.{handle_of, entry_of, lacks_var, new_entry as opened_entry}
 use Rattle.wc_world.proofs.GroupRows.{row_of-append, or_some, no_row}
 use Rattle.wc_model.specs.declared.change.What.{What}
-use Rattle.wc_model.specs.declared.change.What.TheVariants.{Add, Close, MoveTo, MergeInto, Unmerge, Hide, Unhide, Rename, ShortName, Title, SetVar, RemoveVar, Print, Clear, Flips, AddGroup, AddNick, RemoveGroup, RemoveNick, ChangeGroup, ChangeNick}
+use Rattle.wc_model.specs.declared.change.What.TheVariants.{Add, Close, MoveTo, MergeInto, Unmerge, Hide, Unhide, Rename, ShortName, Title, SetVar, RemoveVar, Print, Clear, Flips, AddGroup, AddNick, RemoveGroup, RemoveNick, ChangeGroup, ChangeNick, Limit}
 use Rattle.wc_model.specs.declared.notice.EventKind.{EventKind}
 use Rattle.wc_model.specs.declared.notice.EventKind.TheVariants as event
 use Rattle.wc_model.specs.World.{World}
@@ -16,22 +16,23 @@ use Rattle.wc_model.specs.Apply.{after_of, row_of as new_row}
 use Rattle.wc_model.specs.Notices.{notice_of, var_kind}
 use Rattle.wc_model.specs.Touches.{told_after}
 use Rattle.wc_objects.specs.declared.object.Object.{Object}
-use Rattle.wc_events.specs.BufferObjects.{event_of, objects_of, opened_objects}
+use Rattle.wc_events.specs.BufferObjects.{event_of, objects_of, opened_objects, trim_objects}
 use Rattle.wc_view.specs.Ids.{IsFree}
 use Rattle.wc_view.specs.NickFold.{NickPart, with_opened, without_named, fold_nicks}
-use Rattle.wc_view.specs.NickViews.{HasNicks, HasLists, fold_told_nicks, NickNoticeShows}
+use Rattle.wc_view.specs.NickViews.{HasNicks, HasLists, fold_told_nicks, NickNoticeShows, NickTrimShows}
 use Rattle.wc_view.proofs.EntryLemmas.{by_bool}
 use Rattle.wc_view.proofs.LineTold.{named_told}
 use Rattle.wc_view.proofs.NoticeLaw.{other_id, message_of, told_of}
 use Rattle.wc_view.proofs.BufferTold.{opened_by}
 
--- the events that change no nicklists; a touch of a nicklist is no event
+-- the events that change no nicklists; a touch of a nicklist and another limit are no events
 abbrev quiet : EventKind → Bool
 quiet event.Opened = false
 quiet event.Closing = false
 quiet event.Nicklist = false
 quiet event.NicklistDiff = false
 quiet event.NickTouched = false
+quiet event.LimitSet = false
 quiet _ = true
 
 var_quiet : (b : Bool) → quiet (var_kind b) ≡ true
@@ -53,11 +54,13 @@ quiet_message id part event.VarRemoved objects q free = rw (other_id (codes "buf
 quiet_message id part event.Cleared objects q free = rw (other_id (codes "buffer_cleared") id free) refl
 quiet_message id part event.LineAdded objects q free = rw (other_id (codes "buffer_line_added") id free) refl
 quiet_message id part event.LineDataChanged objects q free = rw (other_id (codes "buffer_line_data_changed") id free) refl
+quiet_message id part event.LinesTrimmed objects q free = rw (other_id (codes "buffer_lines_trimmed") id free) refl
 quiet_message id part event.Opened objects q free = absurd (let z = q in cc)
 quiet_message id part event.Closing objects q free = absurd (let z = q in cc)
 quiet_message id part event.Nicklist objects q free = absurd (let z = q in cc)
 quiet_message id part event.NicklistDiff objects q free = absurd (let z = q in cc)
 quiet_message id part event.NickTouched objects q free = absurd (let z = q in cc)
+quiet_message id part event.LimitSet objects q free = absurd (let z = q in cc)
 
 quiet_told : (id : List ℕ) (part : Option NickPart) (kind : EventKind) (objects : Option (List Object)) → quiet kind ≡ true → IsFree id
     → fold_told_nicks id part (option_map (message_of kind) objects) ≡ Ok part
@@ -120,6 +123,11 @@ change_shows id told world buffer (RemoveGroup name) lists same free = refl
 change_shows id told world buffer (RemoveNick name) lists same free = refl
 change_shows id told world buffer (ChangeGroup item) lists same free = refl
 change_shows id told world buffer (ChangeNick item) lists same free = refl
+change_shows id told world buffer (Limit limit) lists same free = refl
 
 pub notice_shows : NickNoticeShows
 notice_shows id told world change lists same free accepted = change_shows id told world change.buffer change.what lists same free
+
+pub trim_shows : NickTrimShows
+unfolding objects_of
+trim_shows id part world trim free = quiet_message id part event.LinesTrimmed (trim_objects trim) refl free

@@ -8,6 +8,8 @@ use Rattle.wc_model.specs.declared.change.Change.{Change}
 use Rattle.wc_model.specs.World.{World}
 use Rattle.wc_model.specs.Apply.{refusal, after}
 use Rattle.wc_model.specs.Notices.{notice}
+use Rattle.wc_model.specs.Parts.{trim_part}
+use Rattle.wc_model.specs.declared.notice.Trim.{Trim}
 use Rattle.wc_objects.specs.declared.object.WireMessage.{WireMessage}
 use Rattle.wc_events.specs.BufferObjects.{event_of, buffer_dump}
 use Rattle.wc_view.specs.declared.mirror_buffer.MirrorBuffer.{MirrorBuffer}
@@ -62,3 +64,8 @@ BufferNoticeShows = (id : List ℕ) (part : Option MirrorGroups) (world : World)
     → AreGrouped world → IsFree id → refusal world change ≡ None → HasBuffers part world
     → HasBuffers (fold_told_buffers id part (event_of (after world change) (notice world change)))
     (after world change)
+
+-- The event of lines that went changes no buffers.
+abbrev pub BufferTrimShows : Type 0
+BufferTrimShows = (id : List ℕ) (part : Option MirrorGroups) (world : World) (trim : Trim) →
+    IsFree id → fold_told_buffers id part (event_of world (trim_part trim)) ≡ part

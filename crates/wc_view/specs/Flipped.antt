@@ -1,5 +1,5 @@
 -- What a client has after a change that sets flags of lines.
-use Rattle.std.specs.Prelude.{◌≡◌, ℕ, false, List, [], ◌∷◌, fold, Option, None, if◌then◌else◌}
+use Rattle.std.specs.Prelude.{◌≡◌, ℕ, false, List, [], ◌∷◌, Option, None, if◌then◌else◌}
 use Rattle.std.specs.List.{list_any, flat_map}
 use Rattle.wc_text.specs.declared.names.Handle.{Handle}
 use Rattle.wc_lines.specs.declared.line.Line.{Line}
@@ -11,11 +11,10 @@ use Rattle.wc_model.specs.Order.{order}
 use Rattle.wc_model.specs.Apply.{refusal, after}
 use Rattle.wc_model.specs.Notices.{notice}
 use Rattle.wc_objects.specs.declared.object.WireMessage.{WireMessage}
-use Rattle.wc_events.specs.BufferObjects.{id_of, event_of, is_flipped, flag_objects}
+use Rattle.wc_events.specs.BufferObjects.{id_of, is_flipped, flag_objects}
 use Rattle.wc_view.specs.Ids.{IsFree}
 use Rattle.wc_view.specs.Parts.{Part}
-use Rattle.wc_view.specs.Fold.{fold_lines}
-use Rattle.wc_view.specs.Views.{HasAll, IsMirrorable, fold_told}
+use Rattle.wc_view.specs.Views.{HasAll, IsMirrorable, Suits, fold_all, change_events}
 
 -- the event of the lines of a buffer whose flags differ, where there are such
 abbrev pub flag_message : ℕ → List Handle → List Line → WireMessage
@@ -38,15 +37,12 @@ abbrev pub ContentsDiffer : List Line → Type 0
 ContentsDiffer [] = Unit {0}
 ContentsDiffer (line ∷ lines) = (has_content line.content lines ≡ false) × ContentsDiffer lines
 
-abbrev pub fold_all : ℕ → List ℕ → Option Part → List WireMessage → Option Part
-fold_all limit id part messages = fold (fold_lines limit id) part messages
-
--- After the event of any change, and after it the events of flags, a client that had the lines of
+-- After the events of any change, and after them the events of flags, a client that had the lines of
 -- the world has those of the world after the change.
 abbrev pub FlipsShow : Type 0
-FlipsShow = (limit : ℕ) (id : List ℕ) (part : Option Part) (world : World) (change : Change)
-    → IsMirrorable world → world.limit ≡ limit → IsFree id → refusal world change ≡ None
+FlipsShow = (limit : Option ℕ) (id : List ℕ) (part : Option Part) (world : World) (change : Change)
+    → IsMirrorable world → Suits limit world → Suits limit (after world change) → IsFree id →
+    refusal world change ≡ None
     → ((buffer : ℕ) → ContentsDiffer (lines_in (after world change) buffer)) → HasAll part world
-    → HasAll (fold_all limit id
-    (fold_told limit id part (event_of (after world change) (notice world change)))
+    → HasAll (fold_all limit id (fold_all limit id part (change_events limit world change))
     (flag_events (after world change) (notice world change).flips)) (after world change)

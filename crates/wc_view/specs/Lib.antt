@@ -22,5 +22,6 @@ pub mod Rows
 pub mod Runs
 pub mod Taking
 pub mod ToldBuffer
+pub mod Trims
 pub mod Values
 pub mod Views

@@ -2,7 +2,7 @@
 use Rattle.std.specs.Prelude.{◌≡◌, ℕ, ◌^◌, ◌-◌, ◌<◌, ◌≤◌, true, List, Option, Some, None}
 use Rattle.std.specs.Prelude.{Result, Ok, is_some}
 use Rattle.std.specs.List.{AllByRecursion}
-use Rattle.std.specs.FinMap.{get, insert, remove}
+use Rattle.std.specs.FinMap.{get, insert}
 use Rattle.wc_text.specs.declared.names.Handle.{Handle}
 use Rattle.wc_nicklist.specs.declared.item.Row.{Row}
 use Rattle.wc_nicklist.specs.Rows.{IsRows}
@@ -13,6 +13,8 @@ use Rattle.wc_model.specs.declared.change.Change.{Change}
 use Rattle.wc_model.specs.World.{World, rows_at}
 use Rattle.wc_model.specs.Apply.{refusal, after}
 use Rattle.wc_model.specs.Notices.{notice}
+use Rattle.wc_model.specs.Parts.{trim_part}
+use Rattle.wc_model.specs.declared.notice.Trim.{Trim}
 use Rattle.wc_model.specs.Touches.{told_after}
 use Rattle.wc_objects.specs.declared.object.WireMessage.{WireMessage}
 use Rattle.wc_events.specs.BufferObjects.{event_of}
@@ -72,3 +74,8 @@ PushShows = (id : List ℕ) (told : NickPart) (root buffer : Handle) (before now
     → IsFree id → get told buffer.0 ≡ Some before → AreTellable before → AreTellable now
     → HasNicks (fold_told_nicks id (Some told) (push_message buffer (nick_push root before now)))
     (insert told buffer.0 now)
+
+-- The event of lines that went changes no nicklists.
+abbrev pub NickTrimShows : Type 0
+NickTrimShows = (id : List ℕ) (part : Option NickPart) (world : World) (trim : Trim) →
+    IsFree id → fold_told_nicks id part (event_of world (trim_part trim)) ≡ Ok part

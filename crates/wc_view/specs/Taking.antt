@@ -9,10 +9,11 @@ use Rattle.wc_view.specs.BufferFold.{fold_buffers}
 use Rattle.wc_view.specs.NickFold.{NickPart, fold_nicks}
 use Rattle.wc_view.specs.Fold.{fold_lines}
 
--- how many lines of a buffer are held at most, the ids of the dumps of buffers, of lines and of
--- nicklists, and what they and the events after them told, once they were taken
+-- how many lines of a buffer are held at most, where there is a limit, the ids of the dumps of
+-- buffers, of lines and of nicklists, and what they and the events after them told, once they were
+-- taken
 pub record MirrorParts : Type 0 where
-  pub limit : ℕ
+  pub limit : Option ℕ
   pub buffer_dump : List ℕ
   pub line_dump : List ℕ
   pub nick_dump : List ℕ
@@ -20,7 +21,7 @@ pub record MirrorParts : Type 0 where
   pub lines : Option Part
   pub nicks : Option NickPart
 
-abbrev pub nothing_taken : ℕ → List ℕ → List ℕ → List ℕ → MirrorParts
+abbrev pub nothing_taken : Option ℕ → List ℕ → List ℕ → List ℕ → MirrorParts
 nothing_taken limit buffer_dump line_dump nick_dump =
     record {
       limit = limit;

@@ -1,6 +1,7 @@
 -- What a client has of the lines of a world.
 use Rattle.std.specs.Prelude.{◌≡◌, ℕ, ◌^◌, ◌-◌, ◌<◌, ◌≤◌, nat_le, true, false, List, []}
-use Rattle.std.specs.Prelude.{length, map, Option, None, Some, if◌then◌else◌}
+use Rattle.std.specs.Prelude.{length, map, fold, Option, None, Some, if◌then◌else◌, ◌∷◌}
+use Rattle.std.specs.List.{filter_map}
 use Rattle.wc_lines.specs.declared.line.Line.{Line}
 use Rattle.wc_buffers.specs.Groups.{has, times}
 use Rattle.wc_buffers.specs.Calls.{handle_of}
@@ -10,6 +11,8 @@ use Rattle.wc_model.specs.declared.change.What.TheVariants.{Rename, Flips}
 use Rattle.wc_model.specs.World.{World, lines_at as lines_in}
 use Rattle.wc_model.specs.Apply.{refusal, after}
 use Rattle.wc_model.specs.Notices.{notice}
+use Rattle.wc_model.specs.Parts.{parts_of}
+use Rattle.wc_model.specs.declared.notice.Notice.{Notice}
 use Rattle.wc_objects.specs.declared.object.WireMessage.{WireMessage}
 use Rattle.wc_events.specs.LineObjects.{line_dump}
 use Rattle.wc_events.specs.BufferObjects.{event_of}
@@ -56,27 +59,48 @@ abbrev pub HasAll : Option Part → World → Type 0
 HasAll part world = (buffer : ℕ) → HasLines part buffer (lines_in world buffer)
 
 -- What always holds of a world: no buffer is there twice, the handles of buffers were drawn, a
--- buffer holds no more lines than the limit, and one that is not there holds none.
+-- buffer holds no more lines than the limit, which is one that the world may have, and one that is
+-- not there holds none.
 pub record IsMirrorable (world : World) : Type 0 where
   pub once : (buffer : ℕ) → times handle_of buffer world.groups ≤ 1
   pub drawn : (buffer : ℕ) → has handle_of buffer world.groups ≡ true → buffer < world.next
   pub within : (buffer : ℕ) → length (lines_in world buffer) ≤ world.limit
+  pub most : world.limit ≤ 4096
   pub gone : (buffer : ℕ) → has handle_of buffer world.groups ≡ false → lines_in world buffer ≡ []
 
 -- the reply to the line dump
 abbrev pub reply : List ℕ → World → WireMessage
 reply id world = record { id = id; objects = line_dump world }
 
+-- where a client keeps a limit of its own it is that of the world
+abbrev pub Suits : Option ℕ → World → Type 0
+Suits None world = Unit {0}
+Suits (Some limit) world = world.limit ≡ limit
+
 -- After the reply a client has the lines of the world, whatever it had before.
 abbrev pub DumpShows : Type 0
-DumpShows = (limit : ℕ) (id : List ℕ) (part : Option Part) (world : World) → IsMirrorable world →
-    world.limit ≡ limit
+DumpShows = (limit : Option ℕ) (id : List ℕ) (part : Option Part) (world : World) →
+    IsMirrorable world → Suits limit world
     → HasAll (fold_lines limit id part (reply id world)) world
 
--- the lines after an event, where there is one
-abbrev pub fold_told : ℕ → List ℕ → Option Part → Option WireMessage → Option Part
-fold_told limit id part None = part
-fold_told limit id part (Some message) = fold_lines limit id part message
+-- the lines after one message and another
+abbrev pub fold_all : Option ℕ → List ℕ → Option Part → List WireMessage → Option Part
+fold_all limit id part messages = fold (fold_lines limit id) part messages
+
+-- The parts of a notice that a client asked for: all of them, or where it keeps a limit of its own the
+-- event of the change alone.
+abbrev pub heard_parts : Option ℕ → World → Notice → List Notice
+heard_parts None world notice = parts_of world notice
+heard_parts (Some limit) world notice = notice ∷ []
+
+-- the events of these, where there are such
+abbrev pub part_events : World → List Notice → List WireMessage
+part_events world parts = filter_map (event_of world) parts
+
+-- the events of a change of a world
+abbrev pub change_events : Option ℕ → World → Change → List WireMessage
+change_events limit world change = part_events (after world change)
+    (heard_parts limit (after world change) (notice world change))
 
 -- a change that sets no flags of lines
 abbrev pub SetsNoFlags : What → Type 0
@@ -84,11 +108,10 @@ SetsNoFlags (Rename name flips) = flips ≡ []
 SetsNoFlags (Flips flips) = ⊥
 SetsNoFlags _ = Unit {0}
 
--- After the event of a change a client that had the lines of the world has those of the world after
--- it.
+-- After the events of a change a client that had the lines of the world has those of the world after
+-- it: without a limit of its own, or with that of the world before and after.
 abbrev pub NoticeShows : Type 0
-NoticeShows = (limit : ℕ) (id : List ℕ) (part : Option Part) (world : World) (change : Change)
-    → IsMirrorable world → world.limit ≡ limit → IsFree id → refusal world change ≡ None →
-    SetsNoFlags change.what → HasAll part world
-    → HasAll (fold_told limit id part (event_of (after world change) (notice world change)))
-    (after world change)
+NoticeShows = (limit : Option ℕ) (id : List ℕ) (part : Option Part) (world : World) (change : Change)
+    → IsMirrorable world → Suits limit world → Suits limit (after world change) → IsFree id →
+    refusal world change ≡ None → SetsNoFlags change.what → HasAll part world
+    → HasAll (fold_all limit id part (change_events limit world change)) (after world change)

@@ -1,18 +1,19 @@
 //! The lines of each buffer.
 
 ghost use Rattle.std.specs.Prelude.{◌≡◌, ℕ, ◌<◌, ◌++◌, ◌∷◌, [], length, None, IfOk, IfSome};
-ghost use Rattle.std.specs.Prelude.{IfNone, OnOk, OnErr};
+ghost use Rattle.std.specs.Prelude.{IfNone, OnOk, OnErr, drop};
 ghost use Rattle.std.specs.FinMap.{find};
 ghost use Rattle.std.specs.Ordering.{nat_cmp};
 ghost use Rattle.wc_lines.specs.Ring.{last_of};
 ghost use Rattle.wc_view.specs.Entries.{part_at, IsEntry};
 ghost use Rattle.wc_view.specs.LinesLeft.{mirror_lines_left};
 ghost use Rattle.wc_view.specs.Parts.{lines_at, with_row, part_of, without, flagged_line};
-ghost use Rattle.wc_view.specs.Parts.{with_line_flag, with_flag, with_flags};
+ghost use Rattle.wc_view.specs.Parts.{with_line_flag, with_flag, with_flags, kept_lines, with_trim};
 
 use crate::flags::LineFlag;
 use crate::mirror_line::{MirrorLineIter, PackedMirrorLine};
 use crate::rows::LineRow;
+use crate::trims::LineTrim;
 use std::alloc::Global;
 use std::collections::VecDeque;
 use std::marker::Model;
@@ -56,20 +57,29 @@ impl BufferLines {
         MirrorLineIter::new(&self.lines)
     }
 
-    /// Puts a line after the others, of which the oldest go above the limit. Where memory is
-    /// refused, all stay.
-    fn push(&mut self, line: PackedMirrorLine, limit: usize) -> Result<(), NoMemory>
+    /// Puts a line after the others, of which the oldest go above the limit, where there is one.
+    /// Where memory is refused, all stay.
+    fn push(&mut self, line: PackedMirrorLine, limit: Option<usize>) -> Result<(), NoMemory>
         ensures ok { OnOk result
-            (self.new ≡ (self.old.0, last_of limit (self.old.1 ++ line ∷ []))) }
+            (self.new ≡ (self.old.0, kept_lines limit (self.old.1 ++ line ∷ []))) }
         ensures err { OnErr result (self.new ≡ self.old) }
     {
         match self.lines.push_back(line) {
             Ok(()) => {
-                keep_last(&mut self.lines, limit);
+                keep_up_to(&mut self.lines, limit);
                 Ok(())
             }
             Err(_) => Err(NoMemory),
         }
+    }
+
+    /// So many of the oldest lines go, and all where there are fewer.
+    #[tactic(auto, using(crate::proofs::EntryLemmas::last_rest))]
+    fn drop_first(&mut self, count: u32)
+        ensures { self.new ≡ (self.old.0, drop count self.old.1) }
+    {
+        let rest = self.lines.len().saturating_sub(count as usize);
+        keep_last(&mut self.lines, rest);
     }
 
     /// Sets the flag in the lines of its content.
@@ -107,6 +117,15 @@ fn keep_last(lines: &mut VecDeque<PackedMirrorLine>, limit: usize)
     }
 }
 
+/// The oldest lines go above the limit, where there is one.
+fn keep_up_to(lines: &mut VecDeque<PackedMirrorLine>, limit: Option<usize>)
+    ensures { lines.new.items ≡ kept_lines limit lines.old.items }
+{
+    if let Some(limit) = limit {
+        keep_last(lines, limit);
+    }
+}
+
 #[tactic(auto, using(crate::proofs::EntryLemmas::find_more))]
 fn place_of(entries: &[BufferLines], buffer: u64) -> Option<usize>
     ensures some { IfSome result (λ i. (i < length entries.now) × IsEntry buffer i entries.now) }
@@ -131,14 +150,14 @@ pub(crate) fn lines_of(entries: &[BufferLines], buffer: u64) -> MirrorLineIter<'
     }
 }
 
-/// Puts a line after the others of its buffer, of which the oldest go above the limit. Where memory
-/// is refused, all stay.
+/// Puts a line after the others of its buffer, of which the oldest go above the limit, where there
+/// is one. Where memory is refused, all stay.
 #[tactic(auto, using(crate::proofs::EntryLemmas::row_at, crate::proofs::EntryLemmas::row_new))]
 pub(crate) fn add_row(
     entries: &mut Vec<BufferLines>,
     alloc: Global,
     row: LineRow,
-    limit: usize,
+    limit: Option<usize>,
 ) -> Result<(), NoMemory>
     ensures ok { OnOk result (part_at entries.new.items ≡ with_row limit row
         (part_at entries.old.items)) }
@@ -161,12 +180,12 @@ pub(crate) fn add_row(
     }
 }
 
-/// The last lines of each buffer, up to the limit.
+/// The last lines of each buffer, up to the limit, or all where there is none.
 #[tactic(auto, using(crate::proofs::PartLemmas::rows_more))]
 pub(crate) fn of_rows(
     alloc: Global,
     rows: Vec<LineRow>,
-    limit: usize,
+    limit: Option<usize>,
 ) -> Result<Vec<BufferLines>, NoMemory>
     ensures { IfOk result (λ entries. part_at entries.items ≡ part_of limit rows.items) }
 {
@@ -201,5 +220,15 @@ pub(crate) fn set_flags(entries: &mut [BufferLines], flags: &[LineFlag])
 {
     for flag in flags {
         set_flag(entries, *flag);
+    }
+}
+
+/// Takes so many of the oldest lines of a buffer out, where it is there.
+#[tactic(auto, using(crate::proofs::EditLemmas::trim_at, crate::proofs::EditLemmas::trim_nowhere))]
+pub(crate) fn trim_buffer(entries: &mut [BufferLines], trim: LineTrim)
+    ensures { part_at entries.new ≡ with_trim trim (part_at entries.old) }
+{
+    if let Some(place) = place_of(entries, trim.buffer) {
+        entries[place].drop_first(trim.count);
     }
 }

@@ -1,8 +1,8 @@
 //! What holds of each mirror of the lines of a world.
 //! What holds of each mirror of the nicklists of a world.
-ghost use Rattle.wc_view.specs.BufferViews.{BufferDumpShows, BufferNoticeShows};
+ghost use Rattle.wc_view.specs.BufferViews.{BufferDumpShows, BufferNoticeShows, BufferTrimShows};
 ghost use Rattle.wc_view.specs.Flipped.{FlipsShow};
-ghost use Rattle.wc_view.specs.NickViews.{NickDumpShows, NickNoticeShows, PushShows};
+ghost use Rattle.wc_view.specs.NickViews.{NickDumpShows, NickNoticeShows, NickTrimShows, PushShows};
 ghost use Rattle.wc_view.specs.Views.{DumpShows, NoticeShows};
 
 /// After the reply to the line dump a client has the lines of the world.
@@ -10,13 +10,14 @@ pub fn dump_shows_world()
     ensures { DumpShows }
 {}
 
-/// A client that has the lines of a world has those of the world after a change after the event of
-/// the change.
+/// A client that has the lines of a world has those of the world after a change after the events of
+/// the change: with those of lines that went where it keeps no limit of its own, and without them
+/// where it keeps that of the world, which stays.
 pub fn notice_shows_world()
     ensures { NoticeShows }
 {}
 
-/// The same of any change, where after its event each buffer with lines whose flags differ has an
+/// The same of any change, where after its events each buffer with lines whose flags differ has an
 /// event of these.
 pub fn flips_show_world()
     ensures { FlipsShow }
@@ -47,4 +48,10 @@ pub fn notice_shows_nicks()
 /// A client that has the rows that were told of a buffer has those of now after a push.
 pub fn push_shows_nicks()
     ensures { PushShows }
+{}
+
+/// The event of lines that went changes neither the buffers nor the nicklists of a client.
+pub fn trims_show_lines_alone()
+    ensures buffers { BufferTrimShows }
+    ensures nicks { NickTrimShows }
 {}

@@ -79,7 +79,7 @@ impl Held {
     fn fold_first(
         &mut self,
         alloc: Global,
-        limit: usize,
+        limit: Option<usize>,
         dump: &Text,
         message: &WireMessage,
     ) -> Result<(), NoMemory>
@@ -110,11 +110,12 @@ impl Held {
 }
 
 /// A client's mirror: what it holds by the messages that a relay sent it. Contracts see the limit
-/// on the lines of a buffer, the ids of the dumps of buffers, of lines and of nicklists, and once
-/// they were taken, the buffers in groups, the lines of each buffer and the rows of its nicklist.
+/// on the lines of a buffer, where there is one, the ids of the dumps of buffers, of lines and of
+/// nicklists, and once they were taken, the buffers in groups, the lines of each buffer and the
+/// rows of its nicklist.
 #[derive(Drop)]
 pub struct Mirror {
-    limit: usize,
+    limit: Option<usize>,
     buffer_dump: Text,
     line_dump: Text,
     nick_dump: Text,
@@ -152,14 +153,31 @@ impl Mirror {
     pub fn new(alloc: Global, limit: u32, ids: [Text; 3]) -> Result<Mirror, NoMemory>
         requires some { 1 ≤ limit }
         requires ids { AreIds ids }
-        ensures { IfOk result (λ mirror. mirror ≡ nothing_taken limit (slice_index_or ids 0 [])
+        ensures { IfOk result (λ mirror. mirror ≡ nothing_taken (Some limit)
+            (slice_index_or ids 0 []) (slice_index_or ids 1 []) (slice_index_or ids 2 [])) }
+    {
+        Mirror::with_limit(alloc, Some(limit as usize), &ids)
+    }
+
+    /// The same where it never cuts lines by itself: for a client that asked for `trims`.
+    pub fn trimmed(alloc: Global, ids: [Text; 3]) -> Result<Mirror, NoMemory>
+        requires ids { AreIds ids }
+        ensures { IfOk result (λ mirror. mirror ≡ nothing_taken None (slice_index_or ids 0 [])
             (slice_index_or ids 1 []) (slice_index_or ids 2 [])) }
+    {
+        Mirror::with_limit(alloc, None, &ids)
+    }
+
+    /// A mirror that has taken nothing.
+    fn with_limit(alloc: Global, limit: Option<usize>, ids: &[Text; 3]) -> Result<Mirror, NoMemory>
+        ensures { IfOk result (λ mirror. mirror ≡ nothing_taken limit (slice_index_or ids.now 0 [])
+            (slice_index_or ids.now 1 []) (slice_index_or ids.now 2 [])) }
     {
         let buffer_dump = ids[0].copy(alloc)?;
         let line_dump = ids[1].copy(alloc)?;
         let nick_dump = ids[2].copy(alloc)?;
         Ok(Mirror {
-            limit: limit as usize,
+            limit,
             buffer_dump,
             line_dump,
             nick_dump,

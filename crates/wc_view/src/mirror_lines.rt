@@ -3,12 +3,13 @@
 ghost use Rattle.std.specs.Prelude.{◌≡◌, option_map, OnOk, OnErr};
 ghost use Rattle.wc_view.specs.Entries.{part_at};
 ghost use Rattle.wc_view.specs.Fold.{fold_dump, fold_added, fold_emptied, fold_flags, empties};
-ghost use Rattle.wc_view.specs.Fold.{fold_change, fold_event, fold_lines};
+ghost use Rattle.wc_view.specs.Fold.{fold_change, fold_event, fold_lines, fold_marks, fold_trimmed};
 
-use crate::buffer_lines::{BufferLines, add_row, of_rows, remove_buffer, set_flags};
+use crate::buffer_lines::{BufferLines, add_row, of_rows, remove_buffer, set_flags, trim_buffer};
 use crate::flags::flags_on;
 use crate::named::buffer_named;
 use crate::rows::{only_row, rows_on};
+use crate::trims::trim_on;
 use std::alloc::Global;
 use wc_keys::{LINE_PATH, LINES_PATH, event_id};
 use wc_model::EventKind;
@@ -19,7 +20,7 @@ use wc_text::{NoMemory, Text};
 fn take_dump(
     lines: &mut Option<Vec<BufferLines>>,
     alloc: Global,
-    limit: usize,
+    limit: Option<usize>,
     message: &WireMessage,
 ) -> Result<(), NoMemory>
     ensures ok { OnOk result (option_map (λ v. part_at v.items) lines.new ≡ fold_dump limit
@@ -38,7 +39,7 @@ fn take_dump(
 fn take_line(
     lines: &mut Option<Vec<BufferLines>>,
     alloc: Global,
-    limit: usize,
+    limit: Option<usize>,
     message: &WireMessage,
 ) -> Result<(), NoMemory>
     ensures ok { OnOk result (option_map (λ v. part_at v.items) lines.new ≡ fold_added limit
@@ -91,11 +92,44 @@ fn take_flags(
     Ok(())
 }
 
+/// The oldest lines of a buffer go, once the dump was taken.
+fn take_trimmed(lines: &mut Option<Vec<BufferLines>>, message: &WireMessage)
+    ensures { option_map (λ v. part_at v.items) lines.new
+        ≡ fold_trimmed (option_map (λ v. part_at v.items) lines.old) message.now }
+{
+    let Some(entries) = lines else {
+        return;
+    };
+    if let Some(trim) = trim_on(&message.objects) {
+        trim_buffer(entries.as_mut_slice(), trim);
+    }
+}
+
 /// Whether after the event of this id its buffer has no lines any more.
 fn empties(id: &[u8]) -> bool
     ensures { result ≡ empties id.now }
 {
     id == event_id(EventKind::Closing) || id == event_id(EventKind::Cleared)
+}
+
+/// Folds the event of flags of lines, or of lines that went.
+fn take_marks(
+    lines: &mut Option<Vec<BufferLines>>,
+    alloc: Global,
+    message: &WireMessage,
+) -> Result<(), NoMemory>
+    ensures ok { OnOk result (option_map (λ v. part_at v.items) lines.new
+        ≡ fold_marks (option_map (λ v. part_at v.items) lines.old) message.now) }
+    ensures err { OnErr result (option_map (λ v. v.items) lines.new
+        ≡ option_map (λ v. v.items) lines.old) }
+{
+    if message.id.as_slice() == event_id(EventKind::LineDataChanged) {
+        return take_flags(lines, alloc, message);
+    }
+    if message.id.as_slice() == event_id(EventKind::LinesTrimmed) {
+        take_trimmed(lines, message);
+    }
+    Ok(())
 }
 
 /// Folds the event of a change of lines that are held.
@@ -113,17 +147,14 @@ fn take_change(
         take_emptied(lines, message);
         return Ok(());
     }
-    if message.id.as_slice() == event_id(EventKind::LineDataChanged) {
-        return take_flags(lines, alloc, message);
-    }
-    Ok(())
+    take_marks(lines, alloc, message)
 }
 
 /// Folds an event.
 fn take_event(
     lines: &mut Option<Vec<BufferLines>>,
     alloc: Global,
-    limit: usize,
+    limit: Option<usize>,
     message: &WireMessage,
 ) -> Result<(), NoMemory>
     ensures ok { OnOk result (option_map (λ v. part_at v.items) lines.new ≡ fold_event limit
@@ -137,11 +168,12 @@ fn take_event(
     take_change(lines, alloc, message)
 }
 
-/// Folds what a message tells of lines, of which a buffer has as many as the limit at most.
+/// Folds what a message tells of lines, of which a buffer has as many as the limit at most, where
+/// there is one.
 pub(crate) fn fold_lines(
     lines: &mut Option<Vec<BufferLines>>,
     alloc: Global,
-    limit: usize,
+    limit: Option<usize>,
     dump: &Text,
     message: &WireMessage,
 ) -> Result<(), NoMemory>

@@ -1,5 +1,5 @@
 -- From what was done to the fields of a world to the clause on the world.
-use Rattle.std.proofs.Common.{◌≡◌, ℕ, ◌+◌, ◌-◌, ◌<◌, ◌≤◌, ◌^◌, Bool, true, false, cond, eqb, ltb, List, [], ◌∷◌, ◌++◌, Option, Some, None, option_map, unwrap_or, is_some, refl, ap, sym, subst, ◌∙◌, arith, eqb-true, le-ltb}
+use Rattle.std.proofs.Common.{◌≡◌, ℕ, ◌+◌, ◌-◌, ◌<◌, ◌≤◌, ◌^◌, Bool, true, false, cond, eqb, ltb, List, [], ◌∷◌, ◌++◌, length, Option, Some, None, option_map, unwrap_or, is_some, refl, ap, sym, subst, ◌∙◌, arith, eqb-true, le-ltb}
 use Rattle.std.specs.FinMap.{FinMap, get, insert, remove, get-insert, get-remove}
 use Rattle.std.specs.HashMap.{HashMap}
 use Rattle.std.specs.Cmp.{nat_cmp_total}
@@ -24,14 +24,17 @@ use Rattle.wc_model.specs.declared.change.LineSpec.{LineSpec}
 use Rattle.wc_model.specs.declared.notice.EventKind.{EventKind}
 use Rattle.wc_model.specs.declared.notice.EventKind.TheVariants as kinds
 use Rattle.wc_model.specs.declared.notice.Notice.{Notice}
+use Rattle.wc_model.specs.declared.notice.Trim.{Trim}
 use Rattle.wc_model.specs.World.{World, lines_at, printed_at}
 use Rattle.wc_model.specs.Order.{order}
 use Rattle.wc_model.specs.LineCuts.{line_of}
 use Rattle.wc_model.specs.Apply.{refusal_of, after_of, with_groups, with_lines, of_buffers}
-use Rattle.wc_model.specs.Notices.{notice_of, notice_at, name_in, flips_in, flips_between, var_kind, Accepted}
-use Rattle.wc_world.specs.Kept.{held_at, held_in, lines_map, printed_map, printed_under, world_of, IsWorld, IsHeldBuffer, AreContentsApart, IsHeldChanged}
+use Rattle.wc_model.specs.Notices.{notice_of, notice_at, notice_with, trim_of, name_in, flips_in, flips_between, var_kind, Accepted}
+use Rattle.wc_world.specs.declared.line_limit.LineLimit.{LineLimit}
+use Rattle.wc_world.specs.Kept.{held_at, held_in, lines_map, lines_view, LinesView, printed_map, printed_under, world_of, IsWorld, IsHeldBuffer, AreContentsApart, IsHeldChanged}
 use Rattle.wc_world.specs.Nicks.{list_at, AreNicks}
-use Rattle.wc_world.specs.Told.{told_at}
+use Rattle.wc_world.specs.Flips.{stored_lines}
+use Rattle.wc_world.specs.Told.{told_at, told_with}
 use Rattle.wc_world.proofs.GroupRows.{row_of-move, row_of-merge, row_of-unmerge, row_of-update, merged_apart}
 use Rattle.wc_world.proofs.FlipLemmas.{no_flips, no_flips_printed, nothing_flat, apart_more, apart_printed}
 use Rattle.wc_world.proofs.NickLemmas.{kept_nicks, kept_shown, same_lists}
@@ -42,7 +45,7 @@ use Rattle.wc_world.proofs.HeldLemmas.{tied, lines_of, count_of, get_field, put_
 abbrev pub Apart : World → Type 0
 Apart w = (h : ℕ) → AreContentsApart w.next (lines_at w h)
 
-pub are_apart : {S : Type 0} (gs : EntryGroups) (m : HashMap ℕ RingView S) (ns : FinMap nat_cmp (List Row)) (limit next : ℕ) → IsWorld gs m limit next → Apart (world_of gs m ns limit next)
+pub are_apart : {S : Type 0} (gs : EntryGroups) (m : HashMap ℕ RingView S) (ns : FinMap nat_cmp (List Row)) (limit : LineLimit) (next : ℕ) → IsWorld gs m limit next → Apart (world_of gs m ns limit next)
 are_apart gs m ns limit next w h = subst (λ o. AreContentsApart next (unwrap_or o [])) (sym (get_field lines_of m h)) (by (held_at m h) refl)
   where
     by : (o : Option RingView) → held_at m h ≡ o → AreContentsApart next (unwrap_or (option_map (λ (x : RingView). x.lines) o) [])
@@ -53,13 +56,13 @@ pub no_flips_between : (w v : World) → Apart w → ((h : ℕ) → flips_in (li
 no_flips_between w v apart none = nothing_flat (λ h. flips_in (lines_at w h) (lines_at v h)) (order v.groups) none
 
 -- what is held of a buffer, as the world has it
-pub held_shown : {S : Type 0} (gs : EntryGroups) (m : HashMap ℕ RingView S) (ns : FinMap nat_cmp (List Row)) (limit next : ℕ) → IsWorld gs m limit next → (h : ℕ) → held_at m h ≡ held_in (world_of gs m ns limit next) h
+pub held_shown : {S : Type 0} (gs : EntryGroups) (m : HashMap ℕ RingView S) (ns : FinMap nat_cmp (List Row)) (limit : LineLimit) (next : ℕ) → IsWorld gs m limit next → (h : ℕ) → option_map lines_view (held_at m h) ≡ held_in (world_of gs m ns limit next) h
 held_shown gs m ns limit next w h = by (held_at m h) refl ∙ (λ i. whole (sym (get_field count_of m h) i) (sym (get_field lines_of m h) i))
   where
-    whole : Option ℕ → Option (List Line) → Option RingView
-    whole count o = option_map (λ lines. record { limit = limit; lines = lines; pushed = unwrap_or count 0 }) o
+    whole : Option ℕ → Option (List Line) → Option LinesView
+    whole count o = option_map (λ lines. record { limit = limit.most; lines = lines; pushed = unwrap_or count 0 }) o
 
-    by : (o : Option RingView) → held_at m h ≡ o → held_at m h ≡ whole (option_map count_of (held_at m h)) (option_map lines_of (held_at m h))
+    by : (o : Option RingView) → held_at m h ≡ o → option_map lines_view (held_at m h) ≡ whole (option_map count_of (held_at m h)) (option_map lines_of (held_at m h))
     by None e = rw e refl
     by (Some x) e = rw e (λ i. Some (record { limit = (w.fit h x e).limited i; lines = x.lines; pushed = x.pushed }))
 
@@ -157,17 +160,17 @@ removed_flips w u k apart e = no_flips_between w u apart each
         (λ t. rw t refl)
         (λ t. rw t (no_flips w.next (lines_at w q) (apart q))))
 
-pub lined : (w v b : World) (h : Handle) (what : What) (ms : List Line) (counts : FinMap nat_cmp ℕ) (next : ℕ) (kind : EventKind) (name : List ℕ) (ls fs own : List Handle) (told : Notice)
+pub lined : (w v b : World) (h : Handle) (what : What) (ms : List Line) (counts : FinMap nat_cmp ℕ) (next : ℕ) (kind : EventKind) (name : List ℕ) (ls fs own : List Handle) (ts gone : List Trim) (told : Notice)
     → w ≡ v → Apart w → refusal_of w h what ≡ None → b ≡ record (with_lines w h ms) { printed = counts; next = next } → after_of w h what ≡ record (with_lines w h ms) { printed = counts; next = next }
-    → ((b : World) → notice_of w b h what ≡ notice_at kind h b.groups own (flips_between w b))
+    → ((b : World) → notice_of w b h what ≡ notice_with kind h b.groups own (flips_between w b) gone)
     → flips_in (lines_at w h.0) ms ≡ []
-    → name ≡ name_in (buffer_of h w.groups) → told ≡ told_at kind h w.groups name ls fs → ls ≡ own → fs ≡ []
+    → name ≡ name_in (buffer_of h w.groups) → told ≡ told_with kind h w.groups name ls fs ts → ls ≡ own → fs ≡ [] → ts ≡ gone
     → Accepted v (record { buffer = h; what = what }) b told
-lined w v b h what ms counts next kind name ls fs own told is apart r c a n none e t l f =
+lined w v b h what ms counts next kind name ls fs own ts gone told is apart r c a n none e t l f g =
     let u : World = record (with_lines w h ms) { printed = counts; next = next } in
     let flips = inserted_flips w u h.0 ms apart refl none in
-    let read : told_at kind h w.groups name ls fs ≡ told_at kind h w.groups (name_in (buffer_of h w.groups)) own [] = λ i. told_at kind h w.groups (e i) (l i) (f i) in
-    let meant : told_at kind h w.groups (name_in (buffer_of h w.groups)) own [] ≡ notice_at kind h w.groups own (flips_between w u) = ap (notice_at kind h w.groups own) (sym flips) in
+    let read : told_with kind h w.groups name ls fs ts ≡ told_with kind h w.groups (name_in (buffer_of h w.groups)) own [] gone = λ i. told_with kind h w.groups (e i) (l i) (f i) (g i) in
+    let meant : told_with kind h w.groups (name_in (buffer_of h w.groups)) own [] gone ≡ notice_with kind h w.groups own (flips_between w u) gone = ap (λ flips. notice_with kind h w.groups own flips gone) (sym flips) in
     let following : notice_of w u h what ≡ notice_of w (after_of w h what) h what = ap (λ b. notice_of w b h what) (sym a) in
     subst (λ v. Accepted v (record { buffer = h; what = what }) b told) is (record {
       accepted = r;
@@ -175,7 +178,7 @@ lined w v b h what ms counts next kind name ls fs own told is apart r c a n none
       notice = t ∙ read ∙ meant ∙ sym (n u) ∙ following;
     })
 
-module _ {S T : Type 0} (gs : EntryGroups) (m : HashMap ℕ RingView S) (n : HashMap ℕ RingView T) (ns : FinMap nat_cmp (List Row)) (limit next : ℕ) (w : IsWorld gs m limit next) (h : Handle) where
+module _ {S T : Type 0} (gs : EntryGroups) (m : HashMap ℕ RingView S) (n : HashMap ℕ RingView T) (ns : FinMap nat_cmp (List Row)) (limit : LineLimit) (next : ℕ) (w : IsWorld gs m limit next) (h : Handle) where
   there : is_there h gs ≡ true → (x : RingView) × (held_at m h.0 ≡ Some x)
   there t = some_held (held_at m h.0) (w.stored h.0 ∙ t)
 
@@ -192,13 +195,13 @@ module _ {S T : Type 0} (gs : EntryGroups) (m : HashMap ℕ RingView S) (n : Has
       let x = there t in
       let lines = put_field lines_of m n h.0 (without_lines x.0) (changed_to m n h.0 without_lines x.0 x.1 c) in
       let printed = field_left count_of m n without_lines (λ x. refl) h.0 c in
-      lined (world_of gs m ns limit next) v (world_of gs n ns limit next) h Clear [] (printed_map m) next kinds.Cleared name ls fs [] told is (are_apart gs m ns limit next w)
-      (rw t refl) (λ i. record { groups = gs; lines = lines i; printed = printed i; nicks = ns; limit = limit; next = next }) refl (λ b. refl) refl e k l f
+      lined (world_of gs m ns limit next) v (world_of gs n ns limit next) h Clear [] (printed_map m) next kinds.Cleared name ls fs [] [] [] told is (are_apart gs m ns limit next w)
+      (rw t refl) (λ i. record { groups = gs; lines = lines i; printed = printed i; nicks = ns; limit = limit.most; limit_changes = limit.changes; next = next }) refl (λ b. refl) refl e k l f refl
 
-  pub printed_done : (v : World) (spec : LineSpec) (name : List ℕ) (ls fs : List Handle) (told : Notice) → world_of gs m ns limit next ≡ v → is_there h gs ≡ true → next < 2 ^ 62 → IsHeldChanged h.0 (λ x. with_line x (line_of (printed_under m h.0) next spec)) m n
-      → name ≡ name_in (buffer_of h gs) → told ≡ told_at kinds.LineAdded h gs name ls fs → ls ≡ record { 0 = next } ∷ [] → fs ≡ [] → Accepted v (record { buffer = h; what = Print spec }) (world_of gs n ns limit (next + 2)) told
+  pub printed_done : (v : World) (spec : LineSpec) (name : List ℕ) (ls fs : List Handle) (ts : List Trim) (told : Notice) → world_of gs m ns limit next ≡ v → is_there h gs ≡ true → next < 2 ^ 62 → IsHeldChanged h.0 (λ x. with_line x (line_of (printed_under m h.0) next spec)) m n
+      → name ≡ name_in (buffer_of h gs) → told ≡ told_with kinds.LineAdded h gs name ls fs ts → ls ≡ record { 0 = next } ∷ [] → fs ≡ [] → ts ≡ trim_of h (length (stored_lines m h.0) + 1 - limit.most) → Accepted v (record { buffer = h; what = Print spec }) (world_of gs n ns limit (next + 2)) told
   unfolding refusal_of after_of
-  printed_done v spec name ls fs told is t below c e k l f =
+  printed_done v spec name ls fs ts told is t below c e k l f g =
       let x = there t in
       let old = world_of gs m ns limit next in
       let line = line_of (printed_at old h.0) next spec in
@@ -209,18 +212,19 @@ module _ {S T : Type 0} (gs : EntryGroups) (m : HashMap ℕ RingView S) (n : Has
       let lines = put_field lines_of m n h.0 (with_line x.0 line) to in
       let printed = put_field count_of m n h.0 (with_line x.0 line) to in
       let more : (with_line x.0 line).pushed ≡ printed_at old h.0 + 1 = one_more x.0.pushed (let b = fit.counted in omega (arith, below)) ∙ ap (λ k. k + 1) (sym (printed_there x.0 x.1)) in
-      let same : (with_line x.0 line).lines ≡ last_of limit (lines_at old h.0 ++ line ∷ []) = (λ i. last_of (fit.limited i) (sym (lines_there x.0 x.1) i ++ line ∷ [])) in
+      let same : (with_line x.0 line).lines ≡ last_of limit.most (lines_at old h.0 ++ line ∷ []) = (λ i. last_of (fit.limited i) (sym (lines_there x.0 x.1) i ++ line ∷ [])) in
       let room : ltb (2 ^ 62 + 1) (next + 2) ≡ false = le-ltb (2 ^ 62 + 1) (next + 2) (omega arith) in
-      lined old v (world_of gs n ns limit (next + 2)) h (Print spec) (last_of limit (lines_at old h.0 ++ line ∷ [])) counts (next + 2) kinds.LineAdded name ls fs (record { 0 = next } ∷ []) told is (are_apart gs m ns limit next w)
+      let gone : trim_of h (length (stored_lines m h.0) + 1 - limit.most) ≡ trim_of h (length (lines_at old h.0) + 1 - limit.most) = ap (λ o. trim_of h (length (unwrap_or o []) + 1 - limit.most)) (sym (get_field lines_of m h.0)) in
+      lined old v (world_of gs n ns limit (next + 2)) h (Print spec) (last_of limit.most (lines_at old h.0 ++ line ∷ [])) counts (next + 2) kinds.LineAdded name ls fs (record { 0 = next } ∷ []) ts (trim_of h (length (lines_at old h.0) + 1 - limit.most)) told is (are_apart gs m ns limit next w)
       (rw (t, room) refl)
-      (λ i. record { groups = gs; lines = (lines ∙ ap (insert (lines_map m) h.0) same) i; printed = (printed ∙ ap (insert (printed_map m) h.0) more) i; nicks = ns; limit = limit; next = next + 2 })
+      (λ i. record { groups = gs; lines = (lines ∙ ap (insert (lines_map m) h.0) same) i; printed = (printed ∙ ap (insert (printed_map m) h.0) more) i; nicks = ns; limit = limit.most; limit_changes = limit.changes; next = next + 2 })
       refl (λ b. refl)
-      (no_flips_printed next limit line (lines_at old h.0) (are_apart gs m ns limit next w h.0) (omega arith))
-      e k l f
+      (no_flips_printed next limit.most line (lines_at old h.0) (are_apart gs m ns limit next w h.0) (omega arith))
+      e k l f (g ∙ gone)
 
 -- ---- what holds of a world still holds
 
-pub kept_groups : {S : Type 0} (gs hs : EntryGroups) (m : HashMap ℕ RingView S) (limit next : ℕ) → ((q : ℕ) → has handle_of q hs ≡ has handle_of q gs) → IsWorld gs m limit next → IsWorld hs m limit next
+pub kept_groups : {S : Type 0} (gs hs : EntryGroups) (m : HashMap ℕ RingView S) (limit : LineLimit) (next : ℕ) → ((q : ℕ) → has handle_of q hs ≡ has handle_of q gs) → IsWorld gs m limit next → IsWorld hs m limit next
 kept_groups gs hs m limit next e w = record {
   stored = λ q. w.stored q ∙ sym (e q);
   fit = w.fit;
@@ -231,13 +235,13 @@ kept_groups gs hs m limit next e w = record {
   ended = w.ended;
 }
 
-pub kept_grouped : {S T : Type 0} (gs hs : EntryGroups) (m : HashMap ℕ RingView S) (k : HashMap ℕ Nicks T) (limit next count : ℕ) → ((q : ℕ) → has handle_of q hs ≡ has handle_of q gs) → IsWorld gs m limit next × AreNicks gs k count → IsWorld hs m limit next × AreNicks hs k count
+pub kept_grouped : {S T : Type 0} (gs hs : EntryGroups) (m : HashMap ℕ RingView S) (k : HashMap ℕ Nicks T) (limit : LineLimit) (next count : ℕ) → ((q : ℕ) → has handle_of q hs ≡ has handle_of q gs) → IsWorld gs m limit next × AreNicks gs k count → IsWorld hs m limit next × AreNicks hs k count
 kept_grouped gs hs m k limit next count e w = (kept_groups gs hs m limit next e w.0, kept_nicks gs hs k count e w.1)
 
 pub same_some : {A : Type 0} (x y : A) → Some x ≡ Some y → x ≡ y
 same_some x y e = ap (λ o. unwrap_or o x) e
 
-pub kept_changed : {S T : Type 0} (gs : EntryGroups) (m : HashMap ℕ RingView S) (n : HashMap ℕ RingView T) (limit next next2 : ℕ) (h : ℕ) (f : RingView → RingView) → IsHeldChanged h f m n → ((x : RingView) → IsHeldBuffer limit next x → IsHeldBuffer limit next2 (f x)) → next ≤ next2 → next2 ≤ 2 ^ 62 + 1 → IsWorld gs m limit next → IsWorld gs n limit next2
+pub kept_changed : {S T : Type 0} (gs : EntryGroups) (m : HashMap ℕ RingView S) (n : HashMap ℕ RingView T) (limit : LineLimit) (next next2 : ℕ) (h : ℕ) (f : RingView → RingView) → IsHeldChanged h f m n → ((x : RingView) → IsHeldBuffer limit next x → IsHeldBuffer limit next2 (f x)) → next ≤ next2 → next2 ≤ 2 ^ 62 + 1 → IsWorld gs m limit next → IsWorld gs n limit next2
 kept_changed gs m n limit next next2 h f c keeps le most w = record {
   stored = λ q. ap is_some (c q) ∙ still q ∙ w.stored q;
   fit = λ q y e. by_bool (eqb h q) _ (λ t. here (held_at m q) y (w.fit q) (let z = sym (c q) ∙ e in rw t at z)) (λ t. grown y (w.fit q y (let z = sym (c q) ∙ e in rw t at z)));
@@ -256,19 +260,19 @@ kept_changed gs m n limit next next2 h f c keeps le most w = record {
     still q = by_bool (eqb h q) _ (λ t. rw t (mapped (held_at m q))) (λ t. rw t refl)
 
     grown : (x : RingView) → IsHeldBuffer limit next x → IsHeldBuffer limit next2 x
-    grown x i = record { limited = i.limited; apart = apart_more next next2 x.lines (omega arith) i.apart; counted = (let b = i.counted in omega arith) }
+    grown x i = record { limited = i.limited; roomy = i.roomy; apart = apart_more next next2 x.lines (omega arith) i.apart; counted = (let b = i.counted in omega arith) }
 
     here : (o : Option RingView) (y : RingView) → ((x : RingView) → o ≡ Some x → IsHeldBuffer limit next x) → option_map f o ≡ Some y → IsHeldBuffer limit next2 y
     here None y i e = absurd cc
     here (Some x) y i e = subst (IsHeldBuffer limit next2) (same_some (f x) y e) (keeps x (i x refl))
 
-pub kept_cleared : {S T : Type 0} (gs : EntryGroups) (m : HashMap ℕ RingView S) (n : HashMap ℕ RingView T) (limit next : ℕ) (h : ℕ) → IsHeldChanged h without_lines m n → IsWorld gs m limit next → IsWorld gs n limit next
-kept_cleared gs m n limit next h c w = kept_changed gs m n limit next next h without_lines c (λ x i. record { limited = i.limited; apart = tt; counted = i.counted }) (omega arith) w.ended w
+pub kept_cleared : {S T : Type 0} (gs : EntryGroups) (m : HashMap ℕ RingView S) (n : HashMap ℕ RingView T) (limit : LineLimit) (next : ℕ) (h : ℕ) → IsHeldChanged h without_lines m n → IsWorld gs m limit next → IsWorld gs n limit next
+kept_cleared gs m n limit next h c w = kept_changed gs m n limit next next h without_lines c (λ x i. record { limited = i.limited; roomy = i.roomy; apart = tt; counted = i.counted }) (omega arith) w.ended w
 
-pub kept_printed : {S T : Type 0} (gs : EntryGroups) (m : HashMap ℕ RingView S) (n : HashMap ℕ RingView T) (limit next : ℕ) (h : ℕ) (line : Line) → line.content.0 ≡ next + 1 → next < 2 ^ 62 → IsHeldChanged h (λ x. with_line x line) m n → IsWorld gs m limit next → IsWorld gs n limit (next + 2)
-kept_printed gs m n limit next h line e below c w = kept_changed gs m n limit next (next + 2) h (λ x. with_line x line) c (λ x i. record { limited = i.limited; apart = apart_printed next (next + 2) x.limit line x.lines i.apart (omega arith) (omega arith); counted = (let b = i.counted in let one = one_more x.pushed (omega arith) in omega arith) }) (omega arith) (omega arith) w
+pub kept_printed : {S T : Type 0} (gs : EntryGroups) (m : HashMap ℕ RingView S) (n : HashMap ℕ RingView T) (limit : LineLimit) (next : ℕ) (h : ℕ) (line : Line) → line.content.0 ≡ next + 1 → next < 2 ^ 62 → IsHeldChanged h (λ x. with_line x line) m n → IsWorld gs m limit next → IsWorld gs n limit (next + 2)
+kept_printed gs m n limit next h line e below c w = kept_changed gs m n limit next (next + 2) h (λ x. with_line x line) c (λ x i. record { limited = i.limited; roomy = i.roomy; apart = apart_printed next (next + 2) x.limit line x.lines i.apart (omega arith) (omega arith); counted = (let b = i.counted in let one = one_more x.pushed (omega arith) in omega arith) }) (omega arith) (omega arith) w
 
-pub kept_stored : {S T : Type 0} (gs hs : EntryGroups) (m : HashMap ℕ RingView S) (n : HashMap ℕ RingView T) (limit next : ℕ) → hs ≡ gs → ((q : ℕ) → held_at n q ≡ held_at m q) → IsWorld gs m limit next → IsWorld hs n limit next
+pub kept_stored : {S T : Type 0} (gs hs : EntryGroups) (m : HashMap ℕ RingView S) (n : HashMap ℕ RingView T) (limit : LineLimit) (next : ℕ) → hs ≡ gs → ((q : ℕ) → held_at n q ≡ held_at m q) → IsWorld gs m limit next → IsWorld hs n limit next
 kept_stored gs hs m n limit next e s w = subst (λ g. IsWorld g n limit next) (sym e) (record {
   stored = λ q. ap is_some (s q) ∙ w.stored q;
   fit = λ q x f. w.fit q x (sym (s q) ∙ f);
@@ -280,10 +284,10 @@ kept_stored gs hs m n limit next e s w = subst (λ g. IsWorld g n limit next) (s
 })
 
 -- handles were drawn
-pub kept_drawn : {S : Type 0} (gs : EntryGroups) (m : HashMap ℕ RingView S) (limit next next2 : ℕ) → next ≤ next2 → next2 ≤ 2 ^ 62 + 1 → IsWorld gs m limit next → IsWorld gs m limit next2
+pub kept_drawn : {S : Type 0} (gs : EntryGroups) (m : HashMap ℕ RingView S) (limit : LineLimit) (next next2 : ℕ) → next ≤ next2 → next2 ≤ 2 ^ 62 + 1 → IsWorld gs m limit next → IsWorld gs m limit next2
 kept_drawn gs m limit next next2 le most w = record {
   stored = w.stored;
-  fit = λ q x e. (let i = w.fit q x e in record { limited = i.limited; apart = apart_more next next2 x.lines (omega arith) i.apart; counted = (let b = i.counted in omega arith) });
+  fit = λ q x e. (let i = w.fit q x e in record { limited = i.limited; roomy = i.roomy; apart = apart_more next next2 x.lines (omega arith) i.apart; counted = (let b = i.counted in omega arith) });
   below = λ q t. (let b = w.below q t in omega arith);
   some = w.some;
   most = w.most;
@@ -292,6 +296,6 @@ kept_drawn gs m limit next next2 le most w = record {
 }
 
 -- memory was taken
-pub kept_reserved : {S T U V : Type 0} (gs hs : EntryGroups) (m : HashMap ℕ RingView S) (n : HashMap ℕ RingView T) (k : HashMap ℕ Nicks U) (l : HashMap ℕ Nicks V) (limit next count : ℕ)
+pub kept_reserved : {S T U V : Type 0} (gs hs : EntryGroups) (m : HashMap ℕ RingView S) (n : HashMap ℕ RingView T) (k : HashMap ℕ Nicks U) (l : HashMap ℕ Nicks V) (limit : LineLimit) (next count : ℕ)
     → hs ≡ gs → ((q : ℕ) → held_at n q ≡ held_at m q) → ((q : ℕ) → list_at l q ≡ list_at k q) → IsWorld gs m limit next × AreNicks gs k count → IsWorld hs n limit next × AreNicks hs l count
 kept_reserved gs hs m n k l limit next count g s t w = (kept_stored gs hs m n limit next g s w.0, kept_shown gs hs k l count g (same_lists k l t) w.1)

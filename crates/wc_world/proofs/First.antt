@@ -23,11 +23,11 @@ or_false false = refl
 pub has_core : (q : ℕ) → has handle_of q (with_buffer core_row [] []) ≡ eqb 1 q
 has_core q = by_bool (eqb 1 q) _ (λ t. rw t refl) (λ t. rw t refl)
 
-pub first_kept : {S : Type 0} (gs : EntryGroups) (n : HashMap ℕ RingView S) (limit : ℕ) → gs ≡ with_buffer core_row [] [] → ((q : ℕ) → held_at n q ≡ cond (eqb 1 q) (Some (no_lines limit)) None) → 1 ≤ limit → limit ≤ 4096 → IsWorld gs n limit 5
-first_kept gs n limit g c some most = subst (λ g. IsWorld g n limit 5) (sym g) (record {
+pub first_kept : {S : Type 0} (gs : EntryGroups) (n : HashMap ℕ RingView S) (limit : ℕ) → gs ≡ with_buffer core_row [] [] → ((q : ℕ) → held_at n q ≡ cond (eqb 1 q) (Some (no_lines limit)) None) → 1 ≤ limit → limit ≤ 4096 → IsWorld gs n (record { most = limit; changes = 0 }) 5
+first_kept gs n limit g c some most = subst (λ g. IsWorld g n (record { most = limit; changes = 0 }) 5) (sym g) (record {
   stored = λ q. ap is_some (c q) ∙ still q ∙ sym (has_core q);
   fit = λ q x f. by_bool (eqb 1 q) _
-      (λ t. (let z : Some (no_lines limit) ≡ Some x = (let y = sym (c q) ∙ f in rw t at y) in subst (IsHeldBuffer limit 5) (same_some (no_lines limit) x z) (record { limited = refl; apart = tt; counted = omega arith })))
+      (λ t. (let z : Some (no_lines limit) ≡ Some x = (let y = sym (c q) ∙ f in rw t at y) in subst (IsHeldBuffer (record { most = limit; changes = 0 }) 5) (same_some (no_lines limit) x z) (record { limited = refl; roomy = omega arith; apart = tt; counted = omega arith })))
       (λ t. absurd (let z : None ≡ Some x = (let y = sym (c q) ∙ f in rw t at y) in cc));
   below = λ q t. (let z = eqb-true 1 q (sym (has_core q) ∙ t) in omega arith);
   some = some;

@@ -33,7 +33,7 @@ no_flips n (l ∷ ls) a =
     let own : is_flipped (l ∷ ls) l ≡ false = rw (eq-eqb l.content.0 l.content.0 refl, same_bool l.displayed) refl in
     rw own (skip_flips l ls ls a.1 ∙ no_flips n ls a.2)
 
-flips_drop : (ls : List Line) (k : ℕ) (xs : List Line) → flips_in ls xs ≡ [] → flips_in ls (drop k xs) ≡ []
+pub flips_drop : (ls : List Line) (k : ℕ) (xs : List Line) → flips_in ls xs ≡ [] → flips_in ls (drop k xs) ≡ []
 flips_drop ls zero xs e = e
 flips_drop ls (suc k) [] e = refl
 flips_drop ls (suc k) (x ∷ xs) e = by_bool (is_flipped ls x) _
@@ -64,7 +64,7 @@ pub apart_more : (n m : ℕ) (ls : List Line) → n < m + 1 → AreContentsApart
 apart_more n m [] l a = tt
 apart_more n m (x ∷ xs) l a = ((let b = a.0 in omega arith), a.1, apart_more n m xs l a.2)
 
-apart_drop : (n k : ℕ) (ls : List Line) → AreContentsApart n ls → AreContentsApart n (drop k ls)
+pub apart_drop : (n k : ℕ) (ls : List Line) → AreContentsApart n ls → AreContentsApart n (drop k ls)
 apart_drop n zero ls a = a
 apart_drop n (suc k) [] a = tt
 apart_drop n (suc k) (x ∷ xs) a = apart_drop n k xs a.2

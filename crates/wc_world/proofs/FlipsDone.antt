@@ -33,6 +33,7 @@ use Rattle.wc_model.specs.Order.{order}
 use Rattle.wc_model.specs.Apply.{refusal, refusal_of, after_of, no_line, with_flips, flip_all, with_groups}
 use Rattle.wc_model.specs.Notices.{Outcome, Accepted, flips_in, flips_between, name_in, notice_at}
 use Rattle.wc_world.specs.Flips.{last_flag, differing_handles, all_differing, stored_lines, is_stored, lies_in}
+use Rattle.wc_world.specs.declared.line_limit.LineLimit.{LineLimit}
 use Rattle.wc_world.specs.Kept.{held_at, lines_map, printed_map, world_of, IsWorld, IsHeldBuffer}
 use Rattle.wc_world.specs.Nicks.{AreNicks}
 use Rattle.wc_world.specs.Told.{told_at}
@@ -84,10 +85,10 @@ rename_flips_refused v h name flips e n r = rw n r
 abbrev pub refused_at : Option Handle → Option ChangeRefused
 refused_at o = option_map (λ (h : Handle). NoLine h) o
 
-stored_shown : {S : Type 0} (gs : EntryGroups) (m : HashMap ℕ RingView S) (nk : FinMap nat_cmp (List Row)) (limit next buffer : ℕ) → stored_lines m buffer ≡ lines_at (world_of gs m nk limit next) buffer
+pub stored_shown : {S : Type 0} (gs : EntryGroups) (m : HashMap ℕ RingView S) (nk : FinMap nat_cmp (List Row)) (limit : LineLimit) (next buffer : ℕ) → stored_lines m buffer ≡ lines_at (world_of gs m nk limit next) buffer
 stored_shown gs m nk limit next buffer = ap (λ o. unwrap_or o []) (sym (get_field lines_of m buffer))
 
-module _ {S : Type 0} (gs : EntryGroups) (m : HashMap ℕ RingView S) (nk : FinMap nat_cmp (List Row)) (limit next : ℕ) (v : World) (is : world_of gs m nk limit next ≡ v) (flips : List Flip) (ns : List ℕ) (ordered : ns ≡ order gs) where
+module _ {S : Type 0} (gs : EntryGroups) (m : HashMap ℕ RingView S) (nk : FinMap nat_cmp (List Row)) (limit : LineLimit) (next : ℕ) (v : World) (is : world_of gs m nk limit next ≡ v) (flips : List Flip) (ns : List ℕ) (ordered : ns ≡ order gs) where
   pub first_refused : (first : Option Handle) → first ≡ option_map (λ (flip : Flip). flip.content) (find (λ (flip : Flip). not (is_stored m ns flip.content.0)) flips) → no_line flips v ≡ refused_at first
   first_refused first e =
       let meant : no_line flips (world_of gs m nk limit next) ≡ option_map (λ (flip : Flip). NoLine flip.content) (find (λ (flip : Flip). not (is_stored m ns flip.content.0)) flips) =
@@ -106,15 +107,15 @@ module _ {S : Type 0} (gs : EntryGroups) (m : HashMap ℕ RingView S) (nk : FinM
 
 -- ---- the lines of all buffers
 
-stands : (q : ℕ) (gs : EntryGroups) → lies_in q (order gs) ≡ has handle_of q gs
+pub stands : (q : ℕ) (gs : EntryGroups) → lies_in q (order gs) ≡ has handle_of q gs
 stands q gs = list_any-map handle_of (λ n. eqb n q) (λ x. eqb (handle_of x) q) (λ x. refl) (rows gs) ∙ in_rows handle_of q gs
 
-no_held : (o : Option RingView) → is_some o ≡ false → o ≡ None
+pub no_held : (o : Option RingView) → is_some o ≡ false → o ≡ None
 no_held None e = refl
 no_held (Some x) e = absurd (true≢false e)
 
 -- the flags are set at each buffer that is there, and so at all that is held
-pub all_set : {S T : Type 0} (gs : EntryGroups) (m : HashMap ℕ RingView S) (n : HashMap ℕ RingView T) (limit next : ℕ) (flips : List Flip) (flags : ℕ → Option Bool) (ns : List ℕ) → IsWorld gs m limit next → ns ≡ order gs → ((c : ℕ) → flags c ≡ last_flag flips c)
+pub all_set : {S T : Type 0} (gs : EntryGroups) (m : HashMap ℕ RingView S) (n : HashMap ℕ RingView T) (limit : LineLimit) (next : ℕ) (flips : List Flip) (flags : ℕ → Option Bool) (ns : List ℕ) → IsWorld gs m limit next → ns ≡ order gs → ((c : ℕ) → flags c ≡ last_flag flips c)
     → ((q : ℕ) → held_at n q ≡ cond (lies_in q ns) (option_map (with_flags flags) (held_at m q)) (held_at m q)) → (q : ℕ) → held_at n q ≡ option_map (with_flags (last_flag flips)) (held_at m q)
 all_set gs m n limit next flips flags ns w ordered last each q =
     let test : lies_in q ns ≡ has handle_of q gs = ap (lies_in q) ordered ∙ stands q gs in
@@ -124,7 +125,7 @@ all_set gs m n limit next flips flags ns w ordered last each q =
     (λ t. rw t refl)
     (λ t. let none : held_at m q ≡ None = no_held (held_at m q) (w.stored q ∙ t) in rw (t, none) refl)
 
-find_mapped : (F : List Line → List Line) (q : ℕ) (es : List (ℕ × List Line)) → find_entry nat_cmp q (map (λ e. (e.0, F e.1)) es) ≡ option_map F (find_entry nat_cmp q es)
+pub find_mapped : (F : List Line → List Line) (q : ℕ) (es : List (ℕ × List Line)) → find_entry nat_cmp q (map (λ e. (e.0, F e.1)) es) ≡ option_map F (find_entry nat_cmp q es)
 find_mapped F q [] = refl
 find_mapped F q (e ∷ es) = by_bool (eq_by_cmp nat_cmp q e.0) _ (λ t. rw t refl) (λ t. rw t (find_mapped F q es))
 
@@ -150,7 +151,7 @@ name_renamed h name gs t =
     let row = some_row handle_of h.0 gs t in
     ap (λ (o : Option BufferEntry). name_in (option_map (λ (x : BufferEntry). x.row) o)) (row_of-update handle_of h.0 (with_full_name name) (λ x. refl) gs ∙ ap (option_map (with_full_name name)) row.1)
 
-module _ {S T : Type 0} (gs : EntryGroups) (m : HashMap ℕ RingView S) (n : HashMap ℕ RingView T) (nk : FinMap nat_cmp (List Row)) (limit next : ℕ) (w : IsWorld gs m limit next) (flips : List Flip) (set : (q : ℕ) → held_at n q ≡ option_map (with_flags (last_flag flips)) (held_at m q)) where
+module _ {S T : Type 0} (gs : EntryGroups) (m : HashMap ℕ RingView S) (n : HashMap ℕ RingView T) (nk : FinMap nat_cmp (List Row)) (limit : LineLimit) (next : ℕ) (w : IsWorld gs m limit next) (flips : List Flip) (set : (q : ℕ) → held_at n q ≡ option_map (with_flags (last_flag flips)) (held_at m q)) where
   lines_flipped : lines_map n ≡ (flip_all flips (world_of gs m nk limit next)).lines
   lines_flipped = same_map nat_cmp_total nat_cmp-IsAntisymmetric (lines_map n) (flip_all flips (world_of gs m nk limit next)).lines each
     where
@@ -203,7 +204,7 @@ module _ {S T : Type 0} (gs : EntryGroups) (m : HashMap ℕ RingView S) (n : Has
 
       here : (o : Option RingView) (y : RingView) → ((x : RingView) → o ≡ Some x → IsHeldBuffer limit next x) → option_map (with_flags (last_flag flips)) o ≡ Some y → IsHeldBuffer limit next y
       here None y fit e = absurd cc
-      here (Some x) y fit e = subst (IsHeldBuffer limit next) (same_some (with_flags (last_flag flips) x) y e) (record { limited = (fit x refl).limited; apart = apart_flagged (last_flag flips) next x.lines (fit x refl).apart; counted = (fit x refl).counted })
+      here (Some x) y fit e = subst (IsHeldBuffer limit next) (same_some (with_flags (last_flag flips) x) y e) (record { limited = (fit x refl).limited; roomy = (fit x refl).roomy; apart = apart_flagged (last_flag flips) next x.lines (fit x refl).apart; counted = (fit x refl).counted })
 
   module _ (v : World) (h : Handle) (is : world_of gs m nk limit next ≡ v) (all_held : no_line flips v ≡ None) (ls fs : List Handle) (told : Notice) (l : ls ≡ []) (found : fs ≡ flat_map (λ buffer. differing_handles (last_flag flips) (lines_at v buffer)) (order v.groups)) where
     -- what was found is what differs between the two worlds
@@ -215,7 +216,7 @@ module _ {S T : Type 0} (gs : EntryGroups) (m : HashMap ℕ RingView S) (n : Has
     unfolding refusal_of after_of
     flips_done name e t =
         let old = world_of gs m nk limit next in
-        let after : world_of gs n nk limit next ≡ flip_all flips old = λ i. record { groups = gs; lines = lines_flipped i; printed = printed_left i; nicks = nk; limit = limit; next = next } in
+        let after : world_of gs n nk limit next ≡ flip_all flips old = λ i. record { groups = gs; lines = lines_flipped i; printed = printed_left i; nicks = nk; limit = limit.most; limit_changes = limit.changes; next = next } in
         let read : told_at kinds.LineDataChanged (record { 0 = 0 }) gs name ls fs ≡ notice_at kinds.LineDataChanged (record { 0 = 0 }) gs [] (flips_between old (world_of gs n nk limit next)) = λ i. told_at kinds.LineDataChanged (record { 0 = 0 }) gs (e i) (l i) (flips_told gs refl i) in
         subst (λ v. Accepted v (record { buffer = h; what = Flips flips }) (world_of gs n nk limit next) told) is (record {
           accepted = ap (no_line flips) is ∙ all_held;
@@ -229,7 +230,7 @@ module _ {S T : Type 0} (gs : EntryGroups) (m : HashMap ℕ RingView S) (n : Has
     rename_done hs name r g t =
         let old = world_of gs m nk limit next in
         let named : name ≡ name_in (buffer_of h hs) = sym (ap (λ gs. name_in (buffer_of h gs)) g ∙ name_renamed h name gs (rename_good h name gs r).0) in
-        let after : world_of hs n nk limit next ≡ flip_all flips (with_groups old (with_entry h (with_full_name name) gs)) = λ i. record { groups = g i; lines = lines_flipped i; printed = printed_left i; nicks = nk; limit = limit; next = next } in
+        let after : world_of hs n nk limit next ≡ flip_all flips (with_groups old (with_entry h (with_full_name name) gs)) = λ i. record { groups = g i; lines = lines_flipped i; printed = printed_left i; nicks = nk; limit = limit.most; limit_changes = limit.changes; next = next } in
         let read : told_at kinds.Renamed h hs name ls fs ≡ notice_at kinds.Renamed h hs [] (flips_between old (world_of hs n nk limit next)) = λ i. told_at kinds.Renamed h hs (named i) (l i) (flips_told hs (ap order g ∙ order_renamed h name gs) i) in
         subst (λ v. Accepted v (record { buffer = h; what = Rename name flips }) (world_of hs n nk limit next) told) is (record {
           accepted = rw r (ap (no_line flips) is ∙ all_held);
@@ -237,7 +238,7 @@ module _ {S T : Type 0} (gs : EntryGroups) (m : HashMap ℕ RingView S) (n : Has
           notice = t ∙ read ∙ ap (λ (u : World). notice_at kinds.Renamed h u.groups [] (flips_between old u)) after;
         })
 
-pub kept_renamed : {S : Type 0} (gs hs : EntryGroups) (m : HashMap ℕ RingView S) (limit next : ℕ) (h : Handle) (name : List ℕ) → hs ≡ with_entry h (with_full_name name) gs → IsWorld gs m limit next → IsWorld hs m limit next
+pub kept_renamed : {S : Type 0} (gs hs : EntryGroups) (m : HashMap ℕ RingView S) (limit : LineLimit) (next : ℕ) (h : Handle) (name : List ℕ) → hs ≡ with_entry h (with_full_name name) gs → IsWorld gs m limit next → IsWorld hs m limit next
 kept_renamed gs hs m limit next h name g w = kept_groups gs hs m limit next (λ q. ap (has handle_of q) g ∙ has-update handle_of h.0 (with_full_name name) (λ x. refl) q gs) w
 
 pub nicks_renamed : {S : Type 0} (gs hs : EntryGroups) (k : HashMap ℕ Nicks S) (count : ℕ) (h : Handle) (name : List ℕ) → hs ≡ with_entry h (with_full_name name) gs → AreNicks gs k count → AreNicks hs k count

@@ -39,7 +39,7 @@ module _ (flags : ℕ → Option Bool) where
 
   held_twice : (o : Option RingView) → option_map (with_flags flags) (option_map (with_flags flags) o) ≡ option_map (with_flags flags) o
   held_twice None = refl
-  held_twice (Some x) = λ i. Some (record { limit = x.limit; lines = lines_twice x.lines i; pushed = x.pushed })
+  held_twice (Some x) = λ i. Some (record { limit = x.limit; lines = lines_twice x.lines i; pushed = x.pushed; room = x.room })
 
   -- what is set at one buffer is not changed by setting it again
   pub settled : (here later : Bool) (o : Option RingView) → cond later (option_map (with_flags flags) (cond here (option_map (with_flags flags) o) o)) (cond here (option_map (with_flags flags) o) o) ≡ cond (here || later) (option_map (with_flags flags) o) o

@@ -15,3 +15,5 @@ pub mod Counted
 pub mod NickLemmas
 pub mod CutItems
 pub mod NicksDone
+pub mod LimitLemmas
+pub mod LimitDone

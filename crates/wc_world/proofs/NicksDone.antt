@@ -25,6 +25,7 @@ use Rattle.wc_model.specs.World.{World, lines_at, rows_at, row_count, row_limit}
 use Rattle.wc_model.specs.Apply.{refusal_of, after_of, or_else, of_buffers, of_nicks, too_many_rows, adds_row, removes_row, changes_row, with_rows, item_with, handle_in}
 use Rattle.wc_model.specs.Notices.{notice_of, notice_at, name_in, flips_between, Accepted}
 use Rattle.wc_model.specs.Touches.{touched_key, touched_at, touched_by}
+use Rattle.wc_world.specs.declared.line_limit.LineLimit.{LineLimit}
 use Rattle.wc_world.specs.Kept.{world_of, IsWorld}
 use Rattle.wc_world.specs.Nicks.{list_at, rows_of, rows_map, with_edit, IsListChangedAt, IsCut, AreCut, AreNicks, add_of, remove_of, change_of_rows, refused_by_nicks}
 use Rattle.wc_world.specs.Told.{told_at}
@@ -225,7 +226,7 @@ rows_put m n h f t is =
     put_rows m n h (with_edit f x.0) (list_put m n h (with_edit f) x.0 x.1 is)
     ∙ ap (λ rows. insert (rows_map m) h (f rows)) (sym (rows_there m h ∙ ap rows_of x.1))
 
-pub nicked : {S T U : Type 0} (gs : EntryGroups) (m : HashMap ℕ RingView S) (k : HashMap ℕ Nicks T) (l : HashMap ℕ Nicks U) (limit next next2 : ℕ) (v : World) (h : Handle) (what : What) (key : Key) (f : List Row → List Row) (name : List ℕ) (told : Notice)
+pub nicked : {S T U : Type 0} (gs : EntryGroups) (m : HashMap ℕ RingView S) (k : HashMap ℕ Nicks T) (l : HashMap ℕ Nicks U) (limit : LineLimit) (next next2 : ℕ) (v : World) (h : Handle) (what : What) (key : Key) (f : List Row → List Row) (name : List ℕ) (told : Notice)
     → IsWorld gs m limit next → world_of gs m (rows_map k) limit next ≡ v → refusal_of v h what ≡ None → IsNickChange what key
     → is_some (list_at k h.0) ≡ true → IsListChangedAt h.0 (with_edit f) k l
     → after_of (world_of gs m (rows_map k) limit next) h what ≡ record (with_rows (world_of gs m (rows_map k) limit next) h (f (rows_at (world_of gs m (rows_map k) limit next) h.0))) { next = next2 }

@@ -23,6 +23,7 @@ use Rattle.wc_model.specs.declared.notice.Notice.{Notice}
 use Rattle.wc_model.specs.World.{World}
 use Rattle.wc_model.specs.Apply.{refusal_of, after_of, row_of as new_row, of_buffers}
 use Rattle.wc_model.specs.Notices.{notice_of, notice_at, name_in, flips_between, Accepted}
+use Rattle.wc_world.specs.declared.line_limit.LineLimit.{LineLimit}
 use Rattle.wc_world.specs.Kept.{held_at, lines_map, printed_map, world_of, IsWorld, IsHeldBuffer}
 use Rattle.wc_world.specs.Told.{told_at}
 use Rattle.wc_world.proofs.GroupRows.{or_some, row_of-append, no_row, has-take_out}
@@ -31,7 +32,7 @@ use Rattle.wc_world.proofs.HeldLemmas.{lines_of, count_of, put_field, removed_fi
 use Rattle.wc_world.proofs.Done.{are_apart, inserted_flips, removed_flips, same_some}
 
 -- no buffer has the next handle
-pub is_new : {S : Type 0} (gs : EntryGroups) (m : HashMap ℕ RingView S) (limit next : ℕ) → IsWorld gs m limit next → has handle_of next gs ≡ false
+pub is_new : {S : Type 0} (gs : EntryGroups) (m : HashMap ℕ RingView S) (limit : LineLimit) (next : ℕ) → IsWorld gs m limit next → has handle_of next gs ≡ false
 is_new gs m limit next w = by_bool (has handle_of next gs) _ (λ t. absurd (let b = w.below next t in omega arith)) (λ t. t)
 
 new_name : (k : ℕ) (e : BufferEntry) (gs : EntryGroups) → has handle_of k gs ≡ false → handle_of e ≡ k → name_in (buffer_of (record { 0 = k }) (gs ++ (e ∷ []) ∷ [])) ≡ e.row.full_name
@@ -55,17 +56,17 @@ has_opened gs hs e k s g q = ap (has handle_of q) g ∙ list_any-append (in_grou
 pub has_closed : (gs hs : EntryGroups) (h : Handle) → hs ≡ without_buffer h gs → (q : ℕ) → has handle_of q hs ≡ cond (eqb h.0 q) false (has handle_of q gs)
 has_closed gs hs h g q = ap (has handle_of q) g ∙ has-take_out handle_of h.0 q gs
 
-module _ {S T : Type 0} (gs hs : EntryGroups) (m : HashMap ℕ RingView S) (n : HashMap ℕ RingView T) (ns ms : FinMap nat_cmp (List Row)) (limit next : ℕ) (w : IsWorld gs m limit next) (v : World) (is : world_of gs m ns limit next ≡ v) (h : Handle) (name : List ℕ) (told : Notice) where
+module _ {S T : Type 0} (gs hs : EntryGroups) (m : HashMap ℕ RingView S) (n : HashMap ℕ RingView T) (ns ms : FinMap nat_cmp (List Row)) (limit : LineLimit) (next : ℕ) (w : IsWorld gs m limit next) (v : World) (is : world_of gs m ns limit next ≡ v) (h : Handle) (name : List ℕ) (told : Notice) where
   pub added_done : (spec : BufferSpec) → hs ≡ with_buffer (new_row next spec) spec.vars gs → add_refusal (new_row next spec) spec.vars gs ≡ None → next + 4 ≤ 2 ^ 62 + 1
-      → ((q : ℕ) → held_at n q ≡ cond (eqb next q) (Some (no_lines limit)) (held_at m q)) → ms ≡ insert ns next [] → name ≡ spec.full_name → told ≡ told_at kinds.Opened (record { 0 = next }) hs name [] []
+      → ((q : ℕ) → held_at n q ≡ cond (eqb next q) (Some (no_lines limit.most)) (held_at m q)) → ms ≡ insert ns next [] → name ≡ spec.full_name → told ≡ told_at kinds.Opened (record { 0 = next }) hs name [] []
       → Accepted v (record { buffer = h; what = Add spec }) (world_of hs n ms limit (next + 4)) told
   unfolding refusal_of after_of
   added_done spec g r below c k e t =
       let old = world_of gs m ns limit next in
       let new = with_buffer (new_row next spec) spec.vars gs in
-      let u : World = record { groups = new; lines = insert (lines_map m) next []; printed = insert (printed_map m) next 0; nicks = insert ns next []; limit = limit; next = next + 4 } in
-      let lines : lines_map n ≡ insert (lines_map m) next [] = put_field lines_of m n next (no_lines limit) c in
-      let printed : printed_map n ≡ insert (printed_map m) next 0 = put_field count_of m n next (no_lines limit) c in
+      let u : World = record { groups = new; lines = insert (lines_map m) next []; printed = insert (printed_map m) next 0; nicks = insert ns next []; limit = limit.most; limit_changes = limit.changes; next = next + 4 } in
+      let lines : lines_map n ≡ insert (lines_map m) next [] = put_field lines_of m n next (no_lines limit.most) c in
+      let printed : printed_map n ≡ insert (printed_map m) next 0 = put_field count_of m n next (no_lines limit.most) c in
       let flips : flips_between old u ≡ [] = inserted_flips old u next [] (are_apart gs m ns limit next w) refl refl in
       let room : ltb (2 ^ 62 + 1) (next + 4) ≡ false = le-ltb (2 ^ 62 + 1) (next + 4) below in
       let named : name_in (buffer_of (record { 0 = next }) new) ≡ spec.full_name = new_name next (new_entry (new_row next spec) spec.vars) gs (is_new gs m limit next w) refl in
@@ -73,7 +74,7 @@ module _ {S T : Type 0} (gs hs : EntryGroups) (m : HashMap ℕ RingView S) (n : 
       let meant : told_at kinds.Opened (record { 0 = next }) new (name_in (buffer_of (record { 0 = next }) new)) [] [] ≡ notice_of old u h (Add spec) = ap (notice_at kinds.Opened (record { 0 = next }) new []) (sym flips) in
       subst (λ v. Accepted v (record { buffer = h; what = Add spec }) (world_of hs n ms limit (next + 4)) told) is (record {
         accepted = rw (r, room) refl;
-        after = λ i. record { groups = g i; lines = lines i; printed = printed i; nicks = k i; limit = limit; next = next + 4 };
+        after = λ i. record { groups = g i; lines = lines i; printed = printed i; nicks = k i; limit = limit.most; limit_changes = limit.changes; next = next + 4 };
         notice = t ∙ read ∙ meant;
       })
 
@@ -82,7 +83,7 @@ module _ {S T : Type 0} (gs hs : EntryGroups) (m : HashMap ℕ RingView S) (n : 
   unfolding refusal_of after_of
   closed_done g r c k e t =
       let old = world_of gs m ns limit next in
-      let u : World = record { groups = without_buffer h gs; lines = remove (lines_map m) h.0; printed = remove (printed_map m) h.0; nicks = remove ns h.0; limit = limit; next = next } in
+      let u : World = record { groups = without_buffer h gs; lines = remove (lines_map m) h.0; printed = remove (printed_map m) h.0; nicks = remove ns h.0; limit = limit.most; limit_changes = limit.changes; next = next } in
       let lines : lines_map n ≡ remove (lines_map m) h.0 = removed_field lines_of m n h.0 c in
       let printed : printed_map n ≡ remove (printed_map m) h.0 = removed_field count_of m n h.0 c in
       let flips : flips_between old u ≡ [] = removed_flips old u h.0 (are_apart gs m ns limit next w) refl in
@@ -90,18 +91,18 @@ module _ {S T : Type 0} (gs hs : EntryGroups) (m : HashMap ℕ RingView S) (n : 
       let meant : told_at kinds.Closing h gs (name_in (buffer_of h gs)) [] [] ≡ notice_of old u h Close = ap (notice_at kinds.Closing h gs []) (sym flips) in
       subst (λ v. Accepted v (record { buffer = h; what = Close }) (world_of hs n ms limit next) told) is (record {
         accepted = ap of_buffers r;
-        after = λ i. record { groups = g i; lines = lines i; printed = printed i; nicks = k i; limit = limit; next = next };
+        after = λ i. record { groups = g i; lines = lines i; printed = printed i; nicks = k i; limit = limit.most; limit_changes = limit.changes; next = next };
         notice = t ∙ read ∙ meant;
       })
 
   grown : (next2 : ℕ) → next ≤ next2 → (x : RingView) → IsHeldBuffer limit next x → IsHeldBuffer limit next2 x
-  grown next2 le x i = record { limited = i.limited; apart = apart_more next next2 x.lines (omega arith) i.apart; counted = (let b = i.counted in omega arith) }
+  grown next2 le x i = record { limited = i.limited; roomy = i.roomy; apart = apart_more next next2 x.lines (omega arith) i.apart; counted = (let b = i.counted in omega arith) }
 
-  pub kept_added : (e : BufferEntry) → handle_of e ≡ next → hs ≡ gs ++ (e ∷ []) ∷ [] → ((q : ℕ) → held_at n q ≡ cond (eqb next q) (Some (no_lines limit)) (held_at m q)) → next + 4 ≤ 2 ^ 62 + 1 → IsWorld hs n limit (next + 4)
+  pub kept_added : (e : BufferEntry) → handle_of e ≡ next → hs ≡ gs ++ (e ∷ []) ∷ [] → ((q : ℕ) → held_at n q ≡ cond (eqb next q) (Some (no_lines limit.most)) (held_at m q)) → next + 4 ≤ 2 ^ 62 + 1 → IsWorld hs n limit (next + 4)
   kept_added e s g c below = record {
     stored = λ q. ap is_some (c q) ∙ still q ∙ sym (has_new q);
     fit = λ q x f. by_bool (eqb next q) _
-        (λ t. (let z : Some (no_lines limit) ≡ Some x = (let y = sym (c q) ∙ f in rw t at y) in subst (IsHeldBuffer limit (next + 4)) (same_some (no_lines limit) x z) (record { limited = refl; apart = tt; counted = omega arith })))
+        (λ t. (let z : Some (no_lines limit.most) ≡ Some x = (let y = sym (c q) ∙ f in rw t at y) in subst (IsHeldBuffer limit (next + 4)) (same_some (no_lines limit.most) x z) (record { limited = refl; roomy = omega arith; apart = tt; counted = omega arith })))
         (λ t. (let z : held_at m q ≡ Some x = (let y = sym (c q) ∙ f in rw t at y) in grown (next + 4) (omega arith) x (w.fit q x z)));
     below = λ q t. by_bool (eqb next q) _
         (λ u. (let z = eqb-true next q u in omega arith))
@@ -115,7 +116,7 @@ module _ {S T : Type 0} (gs hs : EntryGroups) (m : HashMap ℕ RingView S) (n : 
       has_new : (q : ℕ) → has handle_of q hs ≡ cond (eqb next q) true (has handle_of q gs)
       has_new = has_opened gs hs e next s g
 
-      still : (q : ℕ) → is_some (cond (eqb next q) (Some (no_lines limit)) (held_at m q)) ≡ cond (eqb next q) true (has handle_of q gs)
+      still : (q : ℕ) → is_some (cond (eqb next q) (Some (no_lines limit.most)) (held_at m q)) ≡ cond (eqb next q) true (has handle_of q gs)
       still q = by_bool (eqb next q) _ (λ t. rw t refl) (λ t. rw t (w.stored q))
 
   pub kept_closed : hs ≡ without_buffer h gs → ((q : ℕ) → held_at n q ≡ cond (eqb h.0 q) None (held_at m q)) → IsWorld hs n limit next

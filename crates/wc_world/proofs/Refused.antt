@@ -23,6 +23,7 @@ use Rattle.wc_model.specs.World.{World, last_handle}
 use Rattle.wc_model.specs.Apply.{refusal, refusal_of, or_else, of_buffers, row_of as new_row}
 use Rattle.wc_model.specs.Notices.{Outcome}
 use Rattle.wc_model.specs.Refusals.{refused_by}
+use Rattle.wc_world.specs.declared.line_limit.LineLimit.{LineLimit}
 use Rattle.wc_world.specs.Kept.{held_at, lines_map, printed_map, world_of}
 use Rattle.wc_world.proofs.HeldLemmas.{lines_of, count_of, same_field}
 
@@ -59,14 +60,14 @@ refusing v b c e r is same f = subst (λ r. Outcome v c b (Err r)) (sym is) (by 
     by (BadNumber n) f = (same, f (not_memory (BadNumber n) refl))
     by (TooMany n) f = (same, f (not_memory (TooMany n) refl))
 
-pub same_groups : {S : Type 0} (gs hs : EntryGroups) (m : HashMap ℕ RingView S) (ns : FinMap nat_cmp (List Row)) (limit next : ℕ) (v : World) → hs ≡ gs → world_of gs m ns limit next ≡ v → world_of hs m ns limit next ≡ v
+pub same_groups : {S : Type 0} (gs hs : EntryGroups) (m : HashMap ℕ RingView S) (ns : FinMap nat_cmp (List Row)) (limit : LineLimit) (next : ℕ) (v : World) → hs ≡ gs → world_of gs m ns limit next ≡ v → world_of hs m ns limit next ≡ v
 same_groups gs hs m ns limit next v e is = ap (λ g. world_of g m ns limit next) e ∙ is
 
-pub same_stored : {S T : Type 0} (gs hs : EntryGroups) (m : HashMap ℕ RingView S) (n : HashMap ℕ RingView T) (ns ms : FinMap nat_cmp (List Row)) (limit next : ℕ) (v : World) → hs ≡ gs → ((q : ℕ) → held_at n q ≡ held_at m q) → ms ≡ ns → world_of gs m ns limit next ≡ v → world_of hs n ms limit next ≡ v
+pub same_stored : {S T : Type 0} (gs hs : EntryGroups) (m : HashMap ℕ RingView S) (n : HashMap ℕ RingView T) (ns ms : FinMap nat_cmp (List Row)) (limit : LineLimit) (next : ℕ) (v : World) → hs ≡ gs → ((q : ℕ) → held_at n q ≡ held_at m q) → ms ≡ ns → world_of gs m ns limit next ≡ v → world_of hs n ms limit next ≡ v
 same_stored gs hs m n ns ms limit next v e s k is =
     let lines : lines_map n ≡ lines_map m = same_field lines_of m n (λ q. ap (option_map lines_of) (s q)) in
     let printed : printed_map n ≡ printed_map m = same_field count_of m n (λ q. ap (option_map count_of) (s q)) in
-    let same : world_of hs n ms limit next ≡ world_of gs m ns limit next = λ i. record { groups = e i; lines = lines i; printed = printed i; nicks = k i; limit = limit; next = next } in
+    let same : world_of hs n ms limit next ≡ world_of gs m ns limit next = λ i. record { groups = e i; lines = lines i; printed = printed i; nicks = k i; limit = limit.most; limit_changes = limit.changes; next = next } in
     same ∙ is
 
 pub out_of_memory : (v b : World) (c : Change) (r : Result Notice ChangeRefused) → r ≡ Err ChangeRefused.NoMemory → b ≡ v → Outcome v c b r
@@ -76,7 +77,7 @@ pub by_world : (w v : World) (h : Handle) (what : What) (o : Option ChangeRefuse
 by_world w v h what o is e = subst (λ v. refusal_of v h what ≡ o) is e
 
 -- the same of a `?` on what the buffers answered, who are then as they were
-pub groups_refused : {S : Type 0} (gs hs : EntryGroups) (m : HashMap ℕ RingView S) (ns : FinMap nat_cmp (List Row)) (limit next : ℕ) (v : World) (h : Handle) (what : What) (e : BufferRefused) (r : Result Notice ChangeRefused) → IsErrAnd r (λ x. x ≡ refused_by e) → hs ≡ gs → world_of gs m ns limit next ≡ v → (e ≢ NoMemory → refusal_of (world_of gs m ns limit next) h what ≡ Some (ChangeRefused.Buffer e)) → Outcome v (record { buffer = h; what = what }) (world_of hs m ns limit next) r
+pub groups_refused : {S : Type 0} (gs hs : EntryGroups) (m : HashMap ℕ RingView S) (ns : FinMap nat_cmp (List Row)) (limit : LineLimit) (next : ℕ) (v : World) (h : Handle) (what : What) (e : BufferRefused) (r : Result Notice ChangeRefused) → IsErrAnd r (λ x. x ≡ refused_by e) → hs ≡ gs → world_of gs m ns limit next ≡ v → (e ≢ NoMemory → refusal_of (world_of gs m ns limit next) h what ≡ Some (ChangeRefused.Buffer e)) → Outcome v (record { buffer = h; what = what }) (world_of hs m ns limit next) r
 groups_refused gs hs m ns limit next v h what e r is same view f =
     let p = err_from_is_err_and r is in
     let old = world_of gs m ns limit next in

@@ -11,6 +11,7 @@ use Rattle.wc_nicklist.specs.declared.item.Row.{Row}
 use Rattle.wc_buffers.specs.Calls.{EntryGroups, handle_of}
 use Rattle.wc_buffers.specs.Groups.{has}
 use Rattle.wc_model.specs.World.{World, printed_at}
+use Rattle.wc_world.specs.declared.line_limit.LineLimit.{LineLimit}
 
 -- what is held under a handle
 abbrev pub held_at : {S : Type 0} → HashMap ℕ RingView S → ℕ → Option RingView
@@ -44,37 +45,50 @@ AreContentsApart next [] = Unit {0}
 AreContentsApart next (line ∷ lines) = (line.content.0 < next)
     × (has_content line.content lines ≡ false) × AreContentsApart next lines
 
-pub record IsHeldBuffer (limit next : ℕ) (x : RingView) : Type 0 where
-  pub limited : x.limit ≡ limit
+pub record IsHeldBuffer (limit : LineLimit) (next : ℕ) (x : RingView) : Type 0 where
+  pub limited : x.limit ≡ limit.most
+  -- there is room for as many lines as it may hold
+  pub roomy : limit.most ≤ x.room
   pub apart : AreContentsApart next x.lines
   -- each line that was printed drew a handle
   pub counted : x.pushed < next
 
 pub record IsWorld {S : Type 0} (groups : EntryGroups) (lines : HashMap ℕ RingView S)
-    (limit next : ℕ) : Type 0 where
+    (limit : LineLimit) (next : ℕ) : Type 0 where
   -- each buffer has lines, and nothing else has
   pub stored : (h : ℕ) → is_some (held_at lines h) ≡ has handle_of h groups
   pub fit : (h : ℕ) (x : RingView) → held_at lines h ≡ Some x → IsHeldBuffer limit next x
   pub below : (h : ℕ) → has handle_of h groups ≡ true → h < next
-  pub some : 1 ≤ limit
-  pub most : limit ≤ 4096
+  pub some : 1 ≤ limit.most
+  pub most : limit.most ≤ 4096
   pub started : 1 < next
   pub ended : next ≤ 2 ^ 62 + 1
 
 -- the world that these fields stand for
 abbrev pub world_of : {S : Type 0} → EntryGroups → HashMap ℕ RingView S → FinMap nat_cmp (List Row)
-    → ℕ → ℕ → World
+    → LineLimit → ℕ → World
 world_of groups held nicks limit next = record {
   groups = groups;
   lines = lines_map held;
   printed = printed_map held;
   nicks = nicks;
-  limit = limit;
+  limit = limit.most;
+  limit_changes = limit.changes;
   next = next;
 }
 
--- the lines of a buffer, with how many it holds at most and how many were ever printed in it
-abbrev pub held_in : World → ℕ → Option RingView
+-- what a world knows of the lines of a buffer: how many it holds at most, the lines, and how many were
+-- ever printed in it
+pub record LinesView : Type 0 where
+  pub limit : ℕ
+  pub lines : List Line
+  pub pushed : ℕ
+
+-- lines but for the room that they have
+abbrev pub lines_view : RingView → LinesView
+lines_view x = record { limit = x.limit; lines = x.lines; pushed = x.pushed }
+
+abbrev pub held_in : World → ℕ → Option LinesView
 held_in world h = option_map (λ lines. record {
   limit = world.limit;
   lines = lines;

@@ -1,5 +1,6 @@
 pub mod Flips
 pub mod Kept
+pub mod Limits
 pub mod Near
 pub mod Nicks
 pub mod Texts

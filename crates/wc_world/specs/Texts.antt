@@ -1,5 +1,5 @@
--- The texts of a change are text.
-use Rattle.std.specs.Prelude.{All}
+-- The texts of a change are text, and a limit of lines is one that there may be.
+use Rattle.std.specs.Prelude.{◌≤◌, All}
 use Rattle.std.specs.Str.{IsUtf8}
 use Rattle.wc_nicklist.specs.Rows.{TextsAreUtf8}
 use Rattle.wc_buffers.specs.Entries.{IsText}
@@ -10,7 +10,7 @@ use Rattle.wc_model.specs.declared.change.What.TheVariants.{Add, Close, MoveTo, 
 use Rattle.wc_model.specs.declared.change.What.TheVariants.{Hide, Unhide, Rename, ShortName, Title}
 use Rattle.wc_model.specs.declared.change.What.TheVariants.{SetVar, RemoveVar, Print, Clear, Flips}
 use Rattle.wc_model.specs.declared.change.What.TheVariants.{AddGroup, AddNick, RemoveGroup}
-use Rattle.wc_model.specs.declared.change.What.TheVariants.{RemoveNick, ChangeGroup, ChangeNick}
+use Rattle.wc_model.specs.declared.change.What.TheVariants.{RemoveNick, ChangeGroup, ChangeNick, Limit}
 
 pub record IsLineText (spec : LineSpec) : Type 0 where
   pub tags : All IsUtf8 spec.tags
@@ -45,3 +45,4 @@ IsChangeText (RemoveGroup name) = Unit {0}
 IsChangeText (RemoveNick name) = Unit {0}
 IsChangeText (ChangeGroup item) = TextsAreUtf8 item
 IsChangeText (ChangeNick item) = TextsAreUtf8 item
+IsChangeText (Limit limit) = (1 ≤ limit) × (limit ≤ 4096)

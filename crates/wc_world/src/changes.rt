@@ -16,7 +16,7 @@ impl World {
     /// answered: `Buffer` with the reason of the buffers, `Nick` with the reason of the nicklist,
     /// `NoLine` of the first flip of a line that is not held, `TooManyRows` where a group or a nick
     /// would be added to 1,048,576 rows of all nicklists, `Spent` where the change would draw a
-    /// handle past 2^62.
+    /// handle past 2^62. A limit of lines is refused for want of memory alone.
     ///
     /// An accepted change of a group or a nick touches its key before it is made, with the row that
     /// then is there. Where `touch` is refused memory the change is refused for it too.
@@ -57,6 +57,7 @@ impl World {
             What::RemoveNick(name) => self.remove_row(alloc, h, false, name, touch),
             What::ChangeGroup(item) => self.change_row(alloc, h, true, item, touch),
             What::ChangeNick(item) => self.change_row(alloc, h, false, item, touch),
+            What::Limit(limit) => self.set_limit(alloc, h, limit),
         }
     }
 }

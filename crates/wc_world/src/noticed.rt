@@ -3,12 +3,12 @@ ghost use Rattle.wc_buffers.specs.Calls.{buffer_of, is_there, no_buffer};
 ghost use Rattle.wc_buffers.specs.Kept.{AreBuffers};
 ghost use Rattle.wc_model.specs.Notices.{name_in};
 ghost use Rattle.wc_model.specs.declared.notice.EventKind.TheVariants as kinds;
-ghost use Rattle.wc_world.specs.Told.{told_at};
+ghost use Rattle.wc_world.specs.Told.{told_at, told_with};
 
 use crate::near::{next_of, prev_of};
 use std::alloc::Global;
 use wc_buffers::{BufferRefused, Buffers};
-use wc_model::{EventKind, Notice};
+use wc_model::{EventKind, Notice, Trim};
 use wc_text::{Handle, Items, NoMemory, Text};
 
 /// The full name of a buffer in memory of its own; empty where the buffer is not there.
@@ -21,16 +21,17 @@ pub(crate) fn name_of(buffers: &Buffers, alloc: Global, h: Handle) -> Result<Tex
     }
 }
 
-/// What is noticed of a buffer as it is. It takes no memory.
-pub(crate) fn noticed(
+/// What is noticed of a buffer as it is, and of lines that went. It takes no memory.
+fn noticed_all(
     buffers: &Buffers,
     kind: EventKind,
     h: Handle,
     full_name: Text,
     lines: Items<Handle>,
     flips: Items<Handle>,
+    trims: Items<Trim>,
 ) -> Notice
-    ensures { result ≡ told_at kind h buffers.now full_name lines flips }
+    ensures { result ≡ told_with kind h buffers.now full_name lines flips trims }
 {
     let number = buffers.number(h).unwrap_or(0);
     let prev = prev_of(buffers, h);
@@ -44,7 +45,39 @@ pub(crate) fn noticed(
         next,
         lines,
         flips,
+        trims,
     }
+}
+
+/// What is noticed of a buffer as it is. It takes no memory.
+pub(crate) fn noticed(
+    buffers: &Buffers,
+    alloc: Global,
+    kind: EventKind,
+    h: Handle,
+    full_name: Text,
+    lines: Items<Handle>,
+    flips: Items<Handle>,
+) -> Notice
+    ensures { result ≡ told_at kind h buffers.now full_name lines flips }
+{
+    let none = Items::new(alloc);
+    noticed_all(buffers, kind, h, full_name, lines, flips, none)
+}
+
+/// What is noticed of a buffer as it is, and of lines that went. It takes no memory.
+pub(crate) fn noticed_trims(
+    buffers: &Buffers,
+    alloc: Global,
+    kind: EventKind,
+    h: Handle,
+    full_name: Text,
+    trims: Items<Trim>,
+) -> Notice
+    ensures { result ≡ told_with kind h buffers.now full_name [] [] trims }
+{
+    let none = Items::new(alloc);
+    noticed_all(buffers, kind, h, full_name, Items::new(alloc), none, trims)
 }
 
 /// What is noticed of a buffer as it is, without lines. It takes no memory.
@@ -58,7 +91,7 @@ pub(crate) fn told(
     ensures { result ≡ told_at kind h buffers.now full_name [] [] }
 {
     let none = Items::new(alloc);
-    noticed(buffers, kind, h, full_name, Items::new(alloc), none)
+    noticed(buffers, alloc, kind, h, full_name, Items::new(alloc), none)
 }
 
 /// Whether a buffer is there.
@@ -97,16 +130,19 @@ pub(crate) fn told_line(
     h: Handle,
     full_name: Text,
     lines: Items<Handle>,
+    trims: Items<Trim>,
 ) -> Notice
-    ensures { result ≡ told_at kinds.LineAdded h buffers.now full_name lines [] }
+    ensures { result ≡ told_with kinds.LineAdded h buffers.now full_name lines [] trims }
 {
-    noticed(
+    let none = Items::new(alloc);
+    noticed_all(
         buffers,
         EventKind::LineAdded,
         h,
         full_name,
         lines,
-        Items::new(alloc),
+        none,
+        trims,
     )
 }
 

@@ -162,7 +162,7 @@ impl World {
         let handle = Handle(self.next);
         let (held, lists) = (&mut self.held, &mut self.nicks);
         let name = &spec.full_name;
-        let Ok(buffer) = new_buffer(held, lists, alloc, self.next, self.limit, name) else {
+        let Ok(buffer) = new_buffer(held, lists, alloc, self.next, self.limit.most, name) else {
             drop(spec);
             return Err(ChangeRefused::NoMemory);
         };

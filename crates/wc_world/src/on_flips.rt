@@ -78,6 +78,7 @@ impl World {
         set_flags(&mut self.held, plan.order.as_slice(), &plan.flags);
         Ok(noticed(
             &self.buffers,
+            alloc,
             EventKind::LineDataChanged,
             nowhere,
             full_name,
@@ -112,6 +113,7 @@ impl World {
         set_flags(&mut self.held, plan.order.as_slice(), &plan.flags);
         Ok(noticed(
             &self.buffers,
+            alloc,
             EventKind::Renamed,
             h,
             name,

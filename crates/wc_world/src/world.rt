@@ -4,11 +4,12 @@ ghost use Rattle.std.specs.FinMap.{empty, get, insert};
 ghost use Rattle.wc_buffers.specs.Calls.{is_there, with_buffer};
 ghost use Rattle.wc_lines.specs.Held.{no_lines};
 ghost use Rattle.wc_nicklist.specs.Rows.{IsRows, Nicks as NicksValue};
-ghost use Rattle.wc_world.specs.Kept.{held_at, held_in, lines_map, printed_map};
+ghost use Rattle.wc_world.specs.Kept.{held_at, held_in, lines_map, lines_view, printed_map};
 ghost use Rattle.wc_world.specs.Nicks.{rows_map, AreCut, AreNicks};
 ghost use Rattle.wc_model.specs.World.{core_row, first_world, rows_at, root_at};
 
 use crate::held::{self, Held as HeldLines};
+use crate::line_limit::LineLimit;
 use crate::nicks::{self, Lists};
 use std::alloc::Global;
 use std::collections::HashMap;
@@ -33,7 +34,7 @@ pub struct World {
     pub(crate) nicks: Lists,
     /// The rows of all nicklists.
     pub(crate) row_count: u64,
-    pub(crate) limit: u32,
+    pub(crate) limit: LineLimit,
     pub(crate) next: u64,
 }
 
@@ -137,7 +138,10 @@ impl World {
             held,
             nicks,
             row_count: 0,
-            limit,
+            limit: LineLimit {
+                most: limit,
+                changes: 0,
+            },
             next: 5,
         })
     }
@@ -151,7 +155,7 @@ impl World {
 
     /// The lines of a buffer. None exactly where it is not there.
     pub fn lines(&self, h: Handle) -> Option<&Lines>
-        ensures { option_copied result ≡ held_in self.now h.0 }
+        ensures { option_map lines_view (option_copied result) ≡ held_in self.now h.0 }
     {
         self.held.get(&h.0)
     }
@@ -173,6 +177,13 @@ impl World {
     pub fn limit(&self) -> u32
         ensures { result ≡ self.now.limit }
     {
-        self.limit
+        self.limit.most
+    }
+
+    /// How often that was changed. The count stops at the greatest number.
+    pub fn limit_changes(&self) -> u64
+        ensures { result ≡ self.now.limit_changes }
+    {
+        self.limit.changes
     }
 }

@@ -1,5 +1,5 @@
 use crate::sheet::Sheet;
-use wc_model::{EventKind, Notice};
+use wc_model::{EventKind, Notice, Trim};
 use wc_text::Handle;
 
 fn kind_word(kind: EventKind) -> &'static str {
@@ -22,6 +22,8 @@ fn kind_word(kind: EventKind) -> &'static str {
         EventKind::Nicklist => "nicklist",
         EventKind::NicklistDiff => "nicklist diff",
         EventKind::NickTouched => "nick touched",
+        EventKind::LimitSet => "limit set",
+        EventKind::LinesTrimmed => "lines trimmed",
     }
 }
 
@@ -32,6 +34,17 @@ fn show_handles(out: &mut Sheet, name: &str, handles: &[Handle]) {
     out.put(name);
     for handle in handles {
         out.put_number(" ", handle.0);
+    }
+}
+
+fn show_trims(out: &mut Sheet, trims: &[Trim]) {
+    if trims.is_empty() {
+        return;
+    }
+    out.put(", trims");
+    for trim in trims {
+        out.put_number(" ", trim.buffer.0);
+        out.put_number(":", u64::from(trim.count));
     }
 }
 
@@ -52,5 +65,6 @@ pub fn show_notice(out: &mut Sheet, notice: &Notice) {
     show_place(out, notice);
     show_handles(out, ", lines", notice.lines.as_slice());
     show_handles(out, ", flips", notice.flips.as_slice());
+    show_trims(out, notice.trims.as_slice());
     out.put("\n");
 }

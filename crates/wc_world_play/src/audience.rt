@@ -13,7 +13,7 @@ use std::alloc::Global;
 use wc_change_words::{Wrong, number};
 use wc_events::{event_id, flag_objects};
 use wc_lines::Lines;
-use wc_model::{EventKind, Notice};
+use wc_model::{EventKind, Notice, Trim};
 use wc_nickdiff::{Pending, Push};
 use wc_objects::{Object, append_message};
 use wc_session::BufferEvent;
@@ -38,8 +38,8 @@ impl Audience {
         }
     }
 
-    /// A client of this number comes.
-    pub fn come(&mut self, number: u64, limit: u32) -> Result<(), NoMemory> {
+    /// A client of this number comes, whose mirror holds so many lines a buffer, or as many as it is told.
+    pub fn come(&mut self, number: u64, limit: Option<u32>) -> Result<(), NoMemory> {
         match Client::new(self.alloc, number, limit) {
             Ok(client) => self.add(client),
             Err(NoMemory) => Err(NoMemory),
@@ -79,6 +79,17 @@ impl Audience {
         self.tell_change(out, world, notice);
         if !notice.flips.as_slice().is_empty() {
             self.tell_flips(out, world, &notice.flips);
+        }
+        self.tell_trims(out, notice.trims.as_slice());
+    }
+
+    /// Tells how many of the oldest lines each buffer lost.
+    fn tell_trims(&mut self, out: &mut Sheet, trims: &[Trim]) {
+        for trim in trims {
+            match BufferEvent::of_trim(self.alloc, *trim) {
+                Ok(event) => self.tell(out, &event),
+                Err(NoMemory) => out.lack(),
+            }
         }
     }
 

@@ -27,18 +27,21 @@ pub struct Screen {
 
 /// A mirror that took nothing.
 #[tactic(auto, using(wc_view::proofs::IdLemmas::letter_ids))]
-fn new_mirror(alloc: Global, limit: u32) -> Result<Mirror, NoMemory> {
+fn new_mirror(alloc: Global, limit: Option<u32>) -> Result<Mirror, NoMemory> {
     let ids = [
         Text::from_slice(alloc, b"b")?,
         Text::from_slice(alloc, b"l")?,
         Text::from_slice(alloc, b"n")?,
     ];
-    Mirror::new(alloc, limit.max(1), ids)
+    match limit {
+        Some(limit) => Mirror::new(alloc, limit.max(1), ids),
+        None => Mirror::trimmed(alloc, ids),
+    }
 }
 
 impl Screen {
-    /// A mirror that was sent nothing, which holds so many lines a buffer.
-    fn new(alloc: Global, limit: u32) -> Result<Screen, NoMemory> {
+    /// A mirror that was sent nothing, which holds so many lines a buffer, or as many as it is told.
+    fn new(alloc: Global, limit: Option<u32>) -> Result<Screen, NoMemory> {
         match new_mirror(alloc, limit) {
             Ok(mirror) => Ok(Screen {
                 mirror,
@@ -66,15 +69,20 @@ pub struct Client {
 }
 
 impl Client {
-    /// A client that said nothing, whose mirror holds so many lines a buffer.
-    pub fn new(alloc: Global, number: u64, limit: u32) -> Result<Client, NoMemory> {
+    /// A client that said nothing, whose mirror holds so many lines a buffer, or as many as it is told.
+    pub fn new(alloc: Global, number: u64, limit: Option<u32>) -> Result<Client, NoMemory> {
         match read_config(alloc, CONFIGURATION) {
             Ok(options) => Client::with(alloc, LinkId(number), limit, options),
             Err(_) => Err(NoMemory),
         }
     }
 
-    fn with(alloc: Global, link: LinkId, limit: u32, options: Options) -> Result<Client, NoMemory> {
+    fn with(
+        alloc: Global,
+        link: LinkId,
+        limit: Option<u32>,
+        options: Options,
+    ) -> Result<Client, NoMemory> {
         match Session::new(alloc, link, *b"abcdbcdecdefdefg") {
             Ok(session) => Client::of(alloc, limit, options, session),
             Err(NoMemory) => Err(NoMemory),
@@ -83,7 +91,7 @@ impl Client {
 
     fn of(
         alloc: Global,
-        limit: u32,
+        limit: Option<u32>,
         options: Options,
         session: Session,
     ) -> Result<Client, NoMemory> {

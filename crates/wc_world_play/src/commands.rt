@@ -9,10 +9,13 @@ use crate::sheet::Sheet;
 use crate::stage::Stage;
 use wc_change_words::{Wrong, handle, number};
 
-/// What a client says that is to hold all that the world has.
-const JOINS: &[&str] = &[
-    "init password=x",
-    "sync",
+/// How a client asks for all events, and one that is told which lines went.
+const SYNC: &str = "sync";
+
+const SYNC_TRIMS: &str = "sync * buffers,buffer,nicklist,trims";
+
+/// What a client then says that is to hold all that the world has.
+const DUMPS: &[&str] = &[
     "(b) hdata buffer:gui_buffers(*) number,full_name,short_name,hidden,title,local_variables",
     "(l) hdata buffer:gui_buffers(*)/own_lines/first_line(*)/data \
 buffer,id,date,date_usec,date_printed,date_usec_printed,displayed,notify_level,highlight,\
@@ -80,6 +83,7 @@ impl Stage {
         match words {
             ["client", client] => self.come(client),
             ["join", client] => self.join(out, client),
+            ["join", client, "trims"] => self.join_with_trims(out, client),
             ["sent", client] => self.show_sent(out, client),
             ["mirror", client] => self.mirror(out, client),
             _ => self.ask(out, words),
@@ -163,16 +167,35 @@ impl Stage {
         Ok(())
     }
 
+    /// A client comes whose mirror holds as many lines a buffer as the world.
     fn come(&mut self, client: &str) -> Result<(), Wrong> {
         let limit = self.world.limit();
-        Ok(self.audience.come(number(client)?, limit)?)
+        Ok(self.audience.come(number(client)?, Some(limit))?)
     }
 
-    /// A client comes that asks for all that there is, and for all that becomes of it.
+    /// A client comes that asks for all that becomes of the world, and for all that there is.
     fn join(&mut self, out: &mut Sheet, client: &str) -> Result<(), Wrong> {
         self.come(client)?;
+        self.ask_for_all(out, client, SYNC)
+    }
+
+    /// The same of one that is told which lines went, whose mirror has no limit.
+    fn join_with_trims(&mut self, out: &mut Sheet, client: &str) -> Result<(), Wrong> {
+        self.audience.come(number(client)?, None)?;
+        self.ask_for_all(out, client, SYNC_TRIMS)
+    }
+
+    fn ask_for_all(
+        &mut self,
+        out: &mut Sheet,
+        client: &str,
+        sync: &'static str,
+    ) -> Result<(), Wrong> {
         let client = self.audience.client(client)?;
-        for line in JOINS {
+        for line in ["init password=x", sync] {
+            let _answer = client.say(self.alloc, out, &self.world, line);
+        }
+        for line in DUMPS {
             let line: &'static str = *line;
             let _answer = client.say(self.alloc, out, &self.world, line);
         }

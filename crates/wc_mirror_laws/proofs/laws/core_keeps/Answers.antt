@@ -5,13 +5,13 @@ use Rattle.wc_mirror_laws.proofs.RunLemmas.{run_keeps}
 use Rattle.wc_mirror_laws.proofs.laws.core_keeps.Goals as goal
 
 pub returns-clause-event : goal.returns-clause-event
-returns-clause-event c = λ limit link state event kept. step_keeps limit link state event kept
+returns-clause-event c = λ link state event kept. step_keeps link state event kept
 
 pub returns-clause-run : goal.returns-clause-run
-returns-clause-run c = λ oracle options limit commands connects events link most texts. run_keeps oracle options limit commands connects events link most texts
+returns-clause-run c = λ oracle options lines commands connects events link most texts. run_keeps oracle options lines commands connects events link most texts
 
 pub returns-clause-change : goal.returns-clause-change
-returns-clause-change c = λ limit link state change kept told good. change_keeps limit link state change kept told good
+returns-clause-change c = λ link state change kept told good. change_keeps link state change kept told good
 
 pub returns-clause-push : goal.returns-clause-push
-returns-clause-push c = λ limit link state kept. push_keeps limit link state kept
+returns-clause-push c = λ link state kept. push_keeps link state kept

@@ -16,4 +16,4 @@ pub returns-clause-tick : goal.returns-clause-tick
 returns-clause-tick c = λ state moment. refl
 
 pub returns-clause-fits : goal.returns-clause-fits
-returns-clause-fits c = λ limit link state kept. lists_fit limit link state kept
+returns-clause-fits c = λ link state kept. lists_fit link state kept

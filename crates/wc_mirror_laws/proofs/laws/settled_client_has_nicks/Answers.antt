@@ -3,4 +3,4 @@ use Rattle.wc_mirror_laws.proofs.RunLemmas.{mirrors}
 use Rattle.wc_mirror_laws.proofs.laws.settled_client_has_nicks.Goals as goal
 
 pub returns : goal.returns
-returns c = λ oracle options limit commands connects events link id most texts within settled. mirrors Nicks oracle options limit commands connects events link id most texts within settled
+returns c = λ limit oracle options lines commands connects events link id most texts within settled limited. mirrors Nicks limit oracle options lines commands connects events link id most texts within settled limited

@@ -1,7 +1,7 @@
 use Rattle.std.proofs.Common.{ap, subst, ◌∙◌, arith}
 use Rattle.wc_buffers.specs.Kept.{AreBuffers}
 use Rattle.wc_model.specs.World.{World}
-use Rattle.wc_board.proofs.EventLemmas.{served_kept}
+use Rattle.wc_board.proofs.PartLemmas.{notice_kept}
 use Rattle.wc_core.proofs.CountLemmas.{kept_dropped}
 use Rattle.wc_core.proofs.AnswerLemmas.{changed-some, changed-none}
 use Rattle.wc_core.proofs.core_state.Core.change.Goals as goal
@@ -9,7 +9,7 @@ use Rattle.wc_core.proofs.core_state.Core.change.Goals as goal
 pub count_dropped-requires : goal.count_dropped-requires
 count_dropped-requires c =
     let e = c.in-Ok.ensures in
-    let less = (kept_dropped _ _ (served_kept _ c.in-Ok._told.notice _ _ e.each)).less in
+    let less = (kept_dropped _ _ (notice_kept _ c.in-Ok._told.notice _ _ e.each)).less in
     omega (arith, less, c.open_count-before.ensures)
 
 pub returns-in-Ok-clause-made : goal.returns-in-Ok-clause-made

@@ -13,7 +13,8 @@ invariant_of-self c =
       some = was.some;
       most = was.most;
       within = omega (arith, now.len);
-      room = omega (arith, now.capacity, was.room);
+      room = was.room;
+      taken = omega (arith, now.capacity, was.taken);
       text = subst (All HasUtf8Texts) (sym now.items) (all_with_line c.self.inside.queue.items c.args.line was.text c.requires);
     }
 
@@ -26,7 +27,8 @@ invariant_of-self-2 c =
       some = was.some;
       most = was.most;
       within = omega (arith, now.len, popped_len c.pop_front-oldest.result _ _ popped.cases (omega (arith, was.some)));
-      room = omega (arith, now.capacity, popped.capacity, was.room);
+      room = was.room;
+      taken = omega (arith, now.capacity, popped.capacity, was.taken);
       text = subst (All HasUtf8Texts) (sym (now.items ∙ ap (λ lines. lines ++ c.args.line ∷ []) popped.rest))
           (all_with_line (drop 1 c.self.inside.queue.items) c.args.line (All-drop HasUtf8Texts 1 c.self.inside.queue.items was.text) c.requires);
     }

@@ -18,5 +18,6 @@ invariant_of-self c =
       most = was.most;
       within = was.within;
       room = was.room;
+      taken = was.taken;
       text = subst (All HasUtf8Texts) (sym (c.make_contiguous.ensures.writes_back c.set_flags.new.lines as_many ∙ lines)) (all_flagged (flag_at c.args.flags.now) c.self.inside.queue.items was.text);
     }

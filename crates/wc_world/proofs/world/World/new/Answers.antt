@@ -10,4 +10,4 @@ invariant_of-result c = (
 )
 
 pub returns : goal.returns
-returns c = λ i. record { groups = c.in_ok-buffers.ensures i; lines = c.in_ok-held.ensures.all i; printed = c.in_ok-held.ensures.printed i; nicks = c.in_ok-nicks.ensures.rows i; limit = c.args.limit; next = 5 }
+returns c = λ i. record { groups = c.in_ok-buffers.ensures i; lines = c.in_ok-held.ensures.all i; printed = c.in_ok-held.ensures.printed i; nicks = c.in_ok-nicks.ensures.rows i; limit = c.args.limit; limit_changes = 0; next = 5 }

@@ -3,8 +3,7 @@ use Rattle.wc_lines.specs.LineText.{HasUtf8Texts}
 use Rattle.wc_lines.specs.Ring.{with_line}
 use Rattle.wc_buffers.proofs.RefusalLemmas.{there_good}
 use Rattle.wc_model.specs.declared.change.What.TheVariants.{Print}
-use Rattle.wc_model.specs.LineCuts.{line_of}
-use Rattle.wc_world.specs.Kept.{world_of, IsHeldChanged}
+use Rattle.wc_world.specs.Kept.{world_of, printed_under, IsHeldChanged}
 use Rattle.wc_world.specs.Nicks.{rows_map}
 use Rattle.wc_world.proofs.CutTags.{line_text}
 use Rattle.wc_world.proofs.Done.{printed_done, kept_printed}
@@ -21,10 +20,14 @@ pub put_line-requires-clause-there : goal.put_line-requires-clause-there
 put_line-requires-clause-there c = c.self.invariant.0.stored c.args.h.0 ∙ (there_good c.args.h c.self.inside.buffers (sym c.no_buffer.ensures ∙ c.in_default.is))
 
 pub put_line-requires-clause-text : goal.put_line-requires-clause-text
-put_line-requires-clause-text c = subst HasUtf8Texts (sym c.in_ok-line.ensures) (line_text c.printed-printed.result c.self.inside.next c.args.spec c.requires)
+put_line-requires-clause-text c = subst HasUtf8Texts (sym c.in_ok-new.ensures.line) (line_text (printed_under c.self.inside.held c.args.h.0) c.self.inside.next c.args.spec c.requires)
 
 pub invariant_of-self : goal.invariant_of-self
-invariant_of-self c = (kept_printed c.self.inside.buffers c.self.inside.held c.put_line.new.held c.self.inside.limit c.self.inside.next c.args.h.0 c.in_ok-line.line (ap (λ l. l.content.0) c.in_ok-line.ensures) (omega (arith, c.if-self-ge-LAST_HANDLE.false)) c.put_line.ensures c.self.invariant.0, c.self.invariant.1)
+invariant_of-self c = (kept_printed c.self.inside.buffers c.self.inside.held c.put_line.new.held c.self.inside.limit c.self.inside.next c.args.h.0 c.in_ok-new.new.line (ap (λ l. l.content.0) c.in_ok-new.ensures.line) (omega (arith, c.if-self-ge-LAST_HANDLE.false)) c.put_line.ensures c.self.invariant.0, c.self.invariant.1)
 
 pub returns : goal.returns
-returns c = printed_done c.self.inside.buffers c.self.inside.held c.put_line.new.held (rows_map c.self.inside.nicks) c.self.inside.limit c.self.inside.next c.self.invariant.0 c.args.h c.args.self.now c.args.spec c.in-Ok.full_name c.in-Ok-one.lines [] c.told_line.result c.self.view_is (there_good c.args.h c.self.inside.buffers (sym c.no_buffer.ensures ∙ c.in_default.is)) (omega (arith, c.if-self-ge-LAST_HANDLE.false)) (subst (λ l. IsHeldChanged c.args.h.0 (λ x. with_line x l) c.self.inside.held c.put_line.new.held) (c.in_ok-line.ensures ∙ ap (λ k. line_of k c.self.inside.next c.args.spec) c.printed-printed.ensures) c.put_line.ensures) c.in-Ok.ensures c.told_line.ensures c.in-Ok-one.ensures refl
+returns c =
+    let new = c.in_ok-new.new in
+    let put = subst (λ l. IsHeldChanged c.args.h.0 (λ x. with_line x l) c.self.inside.held c.put_line.new.held) c.in_ok-new.ensures.line c.put_line.ensures in
+    printed_done c.self.inside.buffers c.self.inside.held c.put_line.new.held (rows_map c.self.inside.nicks) c.self.inside.limit c.self.inside.next c.self.invariant.0 c.args.h c.args.self.now c.args.spec new.news.full_name new.news.lines [] new.news.trims c.told_news.result c.self.view_is
+    (there_good c.args.h c.self.inside.buffers (sym c.no_buffer.ensures ∙ c.in_default.is)) (omega (arith, c.if-self-ge-LAST_HANDLE.false)) put c.in_ok-new.ensures.name c.told_news.ensures c.in_ok-new.ensures.lines refl c.in_ok-new.ensures.trims
