@@ -1,0 +1,4 @@
+pub mod FoundLaws
+pub mod OrderLaws
+pub mod TextLaws
+pub mod WordLaws
