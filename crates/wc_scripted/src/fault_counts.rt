@@ -1,7 +1,7 @@
 ghost use Rattle.std.specs.Prelude.{◌≡◌, ◌≤◌, ◌++◌, ◌∷◌, [], IsTrue};
 ghost use Rattle.std.specs.Prelude.{◌+◌, ◌-◌, ◌^◌, min, ◌⊎◌, false};
 ghost use Rattle.wc_outside.specs.Faults.{Rose};
-ghost use Rattle.wc_scripted.specs.Rises.{RoseOnce};
+ghost use Rattle.wc_scripted.specs.Rises.{RoseOnce, TellsOn};
 ghost use Rattle.wc_scripted.specs.Plays.{is_failing};
 
 use crate::told::Told;
@@ -61,6 +61,7 @@ pub(crate) fn fail(told: &mut Told, count: &mut u64, happening: Happening) -> Fa
     ensures asked { told.new.asked ≡ told.old.asked }
     ensures refused { RoseOnce told.old.refused told.new.refused }
     ensures silent { told.old.tells ≡ false → told.new.refused ≡ told.old.refused }
+    ensures goes_on { TellsOn told.old.tells told.new.tells told.old.refused told.new.refused }
 {
     let _ = told.tell(happening);
     count_fault(count);
@@ -115,6 +116,7 @@ pub(crate) fn give(told: &mut Told, count: &mut u64, happening: Happening)
     ensures taken { IsTrue told.new.tells → told.new.taken ≡ told.old.taken ++ happening ∷ [] }
     ensures asked { told.new.asked ≡ told.old.asked }
     ensures refused { RoseOnce told.old.refused told.new.refused }
+    ensures goes_on { TellsOn told.old.tells told.new.tells told.old.refused told.new.refused }
 {
     if !told.tell(happening) {
         *count = count.saturating_add(1);
@@ -135,6 +137,7 @@ pub(crate) fn give_bytes(
         ++ Happening.Read link bytes.now ∷ [] }
     ensures asked { told.new.asked ≡ told.old.asked }
     ensures refused { RoseOnce told.old.refused told.new.refused }
+    ensures goes_on { TellsOn told.old.tells told.new.tells told.old.refused told.new.refused }
 {
     if !told.tells {
         return;
@@ -156,6 +159,7 @@ pub(crate) fn note(told: &mut Told, count: &mut u64, asked: Asked)
     ensures asked { IsTrue told.new.tells → told.new.asked ≡ told.old.asked ++ asked ∷ [] }
     ensures refused { RoseOnce told.old.refused told.new.refused }
     ensures stops { (told.new.refused ≡ told.old.refused) ⊎ (told.new.tells ≡ false) }
+    ensures goes_on { TellsOn told.old.tells told.new.tells told.old.refused told.new.refused }
 {
     if !told.tell_asked(asked) {
         *count = count.saturating_add(1);

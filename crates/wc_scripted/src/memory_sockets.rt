@@ -4,7 +4,7 @@ ghost use Rattle.std.specs.Prelude.{true, false, IsTrue, IfOk, OnOk, OnErr, Matc
 ghost use Rattle.std.specs.Prelude.{length, take, drop, All, IfSome, IsSome};
 ghost use Rattle.wc_scripted.specs.Cursors.{cursor_at, given_at};
 ghost use Rattle.wc_outside.specs.Faults.{Rose};
-ghost use Rattle.wc_scripted.specs.Rises.{RoseOnce};
+ghost use Rattle.wc_scripted.specs.Rises.{RoseOnce, TellsOn};
 ghost use Rattle.wc_outside.specs.Happenings.{IsThere, IsReadWithin, IsPutWithin};
 ghost use Rattle.wc_scripted.specs.Plays.{IsAsFar, called, next_fails, fresh_sources, after_wait};
 ghost use Rattle.wc_scripted.specs.Plays.{after_accept, after_read, after_write, IsArrival, IsFound};
@@ -165,6 +165,8 @@ impl Sockets for MemorySockets {
         ensures play { IsAsFar (play_of self.new) (called (play_of self.old)) }
         ensures fails { FailsWhere (next_fails (play_of self.old)) result }
         ensures refused { RoseOnce (play_of self.old).refused (play_of self.new).refused }
+        ensures goes_on { TellsOn (seen_of self.old).tells (seen_of self.new).tells
+            (play_of self.old).refused (play_of self.new).refused }
         ensures failed { OnErr result (Rose (seen_of self.old).faults.listens
             (seen_of self.new).faults.listens) }
     {
@@ -195,6 +197,8 @@ impl Sockets for MemorySockets {
             (take ready.new.count ready.new.tokens) result) }
         ensures fails { FailsWhere (next_fails (play_of self.old)) result }
         ensures refused { RoseOnce (play_of self.old).refused (play_of self.new).refused }
+        ensures goes_on { TellsOn (seen_of self.old).tells (seen_of self.new).tells
+            (play_of self.old).refused (play_of self.new).refused }
         ensures tokens { OnOk result (All (IsThere (seen_of self.old).there)
             (take ready.new.count ready.new.tokens)) }
         ensures failed { OnErr result (Rose (seen_of self.old).faults.waits
@@ -229,6 +233,8 @@ impl Sockets for MemorySockets {
         ensures fails { FailsOrStarves (next_fails (play_of self.old)) (play_of self.old).refused
             (play_of self.new).refused result }
         ensures refused { RoseOnce (play_of self.old).refused (play_of self.new).refused }
+        ensures goes_on { TellsOn (seen_of self.old).tells (seen_of self.new).tells
+            (play_of self.old).refused (play_of self.new).refused }
         ensures next { IfOk result (λ found. IfSome found
             (λ arrival. arrival.link.0 ≡ (seen_of self.old).used + 1)) }
         ensures limit { IfOk result (λ found. IsSome found → (seen_of self.new).used ≤ 2 ^ 62) }
@@ -272,6 +278,8 @@ impl Sockets for MemorySockets {
         ensures fails { FailsOrStarves (next_fails (play_of self.old)) (play_of self.old).refused
             (play_of self.new).refused result }
         ensures refused { RoseOnce (play_of self.old).refused (play_of self.new).refused }
+        ensures goes_on { TellsOn (seen_of self.old).tells (seen_of self.new).tells
+            (play_of self.old).refused (play_of self.new).refused }
         ensures next { IfOk result (λ link. link.0 ≡ (seen_of self.old).used + 1) }
         ensures failed { OnErr result (Rose (seen_of self.old).faults.connects
             (seen_of self.new).faults.connects) }
@@ -313,6 +321,8 @@ impl Sockets for MemorySockets {
         ensures fails { FailsWhere (next_fails (play_of self.old)
             || not ((seen_of self.old).there link.0)) result }
         ensures refused { RoseOnce (play_of self.old).refused (play_of self.new).refused }
+        ensures goes_on { TellsOn (seen_of self.old).tells (seen_of self.new).tells
+            (play_of self.old).refused (play_of self.new).refused }
         ensures failed { OnErr result (Rose (seen_of self.old).faults.links
             (seen_of self.new).faults.links) }
     {
@@ -345,6 +355,8 @@ impl Sockets for MemorySockets {
         ensures fails { FailsWhere (next_fails (play_of self.old)
             || not ((seen_of self.old).there link.0)) result }
         ensures refused { RoseOnce (play_of self.old).refused (play_of self.new).refused }
+        ensures goes_on { TellsOn (seen_of self.old).tells (seen_of self.new).tells
+            (play_of self.old).refused (play_of self.new).refused }
         ensures within { IfOk result (IsReadWithin (length into.old)) }
         ensures failed { OnErr result (Rose (seen_of self.old).faults.links
             (seen_of self.new).faults.links) }
@@ -385,6 +397,8 @@ impl Sockets for MemorySockets {
             || not ((seen_of self.old).there link.0)) (play_of self.old).refused
             (play_of self.new).refused result }
         ensures refused { RoseOnce (play_of self.old).refused (play_of self.new).refused }
+        ensures goes_on { TellsOn (seen_of self.old).tells (seen_of self.new).tells
+            (play_of self.old).refused (play_of self.new).refused }
         ensures within { IfOk result (IsPutWithin (length piece.now)) }
         ensures failed { OnErr result (Rose (seen_of self.old).faults.links
             (seen_of self.new).faults.links) }
@@ -417,6 +431,8 @@ impl Sockets for MemorySockets {
             (close_sees (seen_of self.old) link) }
         ensures play { IsAsFar (play_of self.new) (play_of self.old) }
         ensures refused { (play_of self.new).refused ≡ (play_of self.old).refused }
+        ensures goes_on { TellsOn (seen_of self.old).tells (seen_of self.new).tells
+            (play_of self.old).refused (play_of self.new).refused }
     {
         close(&mut self.rows, link);
     }

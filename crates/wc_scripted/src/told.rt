@@ -1,5 +1,6 @@
 ghost use Rattle.std.specs.Prelude.{◌≡◌, ◌++◌, ◌∷◌, [], IsTrue, true, false};
 ghost use Rattle.std.specs.Prelude.{◌+◌, ◌-◌, ◌^◌, min, if◌then◌else◌};
+ghost use Rattle.wc_scripted.specs.Rises.{TellsOn};
 
 use std::alloc::Global;
 use wc_outside::{Asked, Happening};
@@ -60,6 +61,7 @@ impl Told {
             else min (self.old.refused + 1) (2 ^ 64 - 1)) }
         ensures stops { result ≡ false → self.new.tells ≡ false }
         ensures silent { self.old.tells ≡ false → result ≡ true }
+        ensures goes_on { TellsOn self.old.tells self.new.tells self.old.refused self.new.refused }
     {
         if self.tells && self.taken.push(happening).is_err() {
             self.stop();
@@ -77,6 +79,7 @@ impl Told {
             else min (self.old.refused + 1) (2 ^ 64 - 1)) }
         ensures stops { result ≡ false → self.new.tells ≡ false }
         ensures silent { self.old.tells ≡ false → result ≡ true }
+        ensures goes_on { TellsOn self.old.tells self.new.tells self.old.refused self.new.refused }
     {
         if self.tells && self.asked.push(asked).is_err() {
             self.stop();
