@@ -11,9 +11,10 @@ use Rattle.wc_eval.specs.Verdicts.{VerdictsView, Stay, verdict_on, is_known_fine
 use Rattle.wc_eval.specs.declared.verdict.Verdict.{Verdict}
 use Rattle.wc_filters.specs.Finders.{concerning, Ready}
 use Rattle.wc_filters.specs.Hides.{concerns, sifts, sifted, hides}
-use Rattle.wc_filters.specs.Kept.{AreFine, without, with_flag, is_named}
+use Rattle.wc_filters.specs.Kept.{AreFine, without, with_switch, is_meant, switched}
 use Rattle.wc_filters.specs.Patterns.{half_is_known, is_known, search_of}
 use Rattle.wc_filters.specs.declared.filter.Filter.{Filter}
+use Rattle.wc_filters.specs.declared.switch.Switch.{Switch}
 use Rattle.wc_filters.specs.declared.search.Search.{Search}
 
 -- ---- those that concern a buffer
@@ -103,13 +104,14 @@ module _ (verdicts : VerdictsView) where
   pub fine_without : (name : List ℕ) (filters : List Filter) → AreFine verdicts filters → AreFine verdicts (without name filters)
   fine_without name filters fine = All-filter _ IsFine filters fine
 
-  flag_same : (name : List ℕ) (on : Bool) (f : Filter) (test : Bool) → IsFine f → IsFine (cond test (record f { enabled = on }) f)
-  flag_same name on f true fine = fine
-  flag_same name on f false fine = fine
+  flag_same : (on : Bool) (f : Filter) (test : Bool) → IsFine f → IsFine (cond test (record f { enabled = on }) f)
+  flag_same on f true fine = fine
+  flag_same on f false fine = fine
 
-  -- as filters are enabled or disabled
-  pub fine_switched : (name : List ℕ) (on : Bool) (filters : List Filter) → AreFine verdicts filters → AreFine verdicts (map (with_flag name on) filters)
-  fine_switched name on filters fine = All-map IsFine (with_flag name on) filters (λ k d inside. flag_same name on (get_or filters k d) (is_named name (get_or filters k d)) (fine k d inside))
+  -- as filters are switched
+  pub fine_switched : (name : Option (List ℕ)) (switch : Switch) (filters : List Filter) → AreFine verdicts filters → AreFine verdicts (map (with_switch name switch) filters)
+  fine_switched name switch filters fine = All-map IsFine (with_switch name switch) filters (λ k d inside.
+      let f = get_or filters k d in flag_same (switched switch f.enabled) f (is_meant name f) (fine k d inside))
 
   -- as one is added
   pub fine_added : (filters : List Filter) (f : Filter) → AreFine verdicts filters → is_known verdicts (search_of f.pattern) ≡ true →

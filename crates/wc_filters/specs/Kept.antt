@@ -7,6 +7,8 @@ use Rattle.std.specs.Str.{bytes_eq}
 use Rattle.wc_eval.specs.Verdicts.{Oracle, VerdictsView}
 use Rattle.wc_filters.specs.Patterns.{search_of, is_fine_by, is_known}
 use Rattle.wc_filters.specs.declared.filter.Filter.{Filter}
+use Rattle.wc_filters.specs.declared.switch.Switch.{Switch}
+use Rattle.wc_filters.specs.declared.switch.Switch.TheVariants.{Enable, Disable, Toggle}
 use Rattle.wc_filters.specs.declared.refused.FilterRefused.{FilterRefused}
 use Rattle.wc_filters.specs.declared.refused.FilterRefused.TheVariants as refused
 
@@ -21,6 +23,26 @@ without name filters = filter (λ f. not (is_named name f)) filters
 
 abbrev pub with_flag : List ℕ → Bool → Filter → Filter
 with_flag name on f = if is_named name f then record f { enabled = on } else f
+
+-- whether a name means a filter; without a name each is meant
+abbrev pub is_meant : Option (List ℕ) → Filter → Bool
+is_meant None f = true
+is_meant (Some name) f = is_named name f
+
+-- whether a name means some filter; without a name nothing is asked
+abbrev pub is_there : Option (List ℕ) → List Filter → Bool
+is_there None filters = true
+is_there (Some name) filters = has_name name filters
+
+abbrev pub switched : Switch → Bool → Bool
+switched Enable enabled = true
+switched Disable enabled = false
+switched Toggle enabled = not enabled
+
+-- a filter whose own flag is switched, if it is meant
+abbrev pub with_switch : Option (List ℕ) → Switch → Filter → Filter
+with_switch name switch f =
+    if is_meant name f then record f { enabled = switched switch f.enabled } else f
 
 -- whether the filter of this name is enabled, if there is one
 abbrev pub flag_of : List ℕ → List Filter → Option Bool

@@ -1,4 +1,7 @@
-use wc_text::Text;
+ghost use Rattle.std.specs.Prelude.{◌≡◌, IfOk};
+
+use std::alloc::Global;
+use wc_text::{NoMemory, Text};
 
 /// A filter, as contracts see it.
 #[derive(Drop)]
@@ -12,4 +15,19 @@ pub struct Filter {
     pub pattern: Text,
     /// Only then it hides lines.
     pub enabled: bool,
+}
+
+impl Filter {
+    /// The same filter in memory of its own.
+    pub(crate) fn copy(&self, alloc: Global) -> Result<Filter, NoMemory>
+        ensures { IfOk result (λ filter. filter ≡ self.now) }
+    {
+        Ok(Filter {
+            name: self.name.copy(alloc)?,
+            buffers: self.buffers.copy(alloc)?,
+            tags: self.tags.copy(alloc)?,
+            pattern: self.pattern.copy(alloc)?,
+            enabled: self.enabled,
+        })
+    }
 }

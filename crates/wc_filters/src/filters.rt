@@ -1,10 +1,12 @@
 ghost use Rattle.std.specs.Prelude.{◌≡◌, ◌++◌, ◌∷◌, [], IfOk, OnOk, OnErr, IfErr, IsTrue, map};
+ghost use Rattle.std.specs.Option.{option_copied};
 ghost use Rattle.std.specs.Iterator.{YieldsFirstRef, item_count};
 ghost use Rattle.std.specs.Str.{IsUtf8};
 ghost use Rattle.wc_eval.specs.Verdicts.{Oracle, Agrees, Stay, VerdictsView};
 ghost use Rattle.wc_lines.specs.LineText.{HasUtf8Texts};
 ghost use Rattle.wc_filters.specs.Hides.{hides, is_hider};
 ghost use Rattle.wc_filters.specs.Kept.{has_name, without, with_flag, flag_of, new_filter};
+ghost use Rattle.wc_filters.specs.Kept.{is_there, with_switch};
 ghost use Rattle.wc_filters.specs.Kept.{refusal_of, IsAnswer, AreFine};
 ghost use Rattle.wc_filters.specs.NamesLeft.{names_left};
 ghost use Rattle.wc_filters.specs.Parts.{tags_in};
@@ -15,6 +17,7 @@ use crate::refused::FilterRefused;
 use crate::row::Row;
 use crate::search::Search;
 use crate::sieve::Sieve;
+use crate::switch::Switch;
 use std::alloc::Global;
 use std::marker::Model;
 use wc_eval::Verdicts;
@@ -107,9 +110,32 @@ impl Filters {
         ensures fine { (verdicts : VerdictsView) → AreFine verdicts self.old →
             AreFine verdicts self.new }
     {
-        let found = is_taken(self.rows.as_slice(), name);
-        enable(self.rows.as_mut_slice(), name, on);
+        let switch = if on { Switch::Enable } else { Switch::Disable };
+        self.switch(Some(name), switch)
+    }
+
+    /// Switches the filter of this name, or without a name each by its own flag. False exactly
+    /// where a name is given that no filter has.
+    pub fn switch(&mut self, name: Option<&Text>, switch: Switch) -> bool
+        ensures filters { self.new ≡ map (with_switch (option_copied name.entry) switch) self.old }
+        ensures found { result ≡ is_there (option_copied name.entry) self.old }
+        ensures fine { (verdicts : VerdictsView) → AreFine verdicts self.old →
+            AreFine verdicts self.new }
+    {
+        let found = is_there(self.rows.as_slice(), name);
+        switch_rows(self.rows.as_mut_slice(), name, switch);
         found
+    }
+
+    /// The same filters in memory of their own.
+    pub fn copy(&self) -> Result<Filters, NoMemory>
+        ensures { IfOk result (λ filters. filters ≡ self.now) }
+    {
+        let rows = copies(self.alloc, self.rows.as_slice())?;
+        Ok(Filters {
+            alloc: self.alloc,
+            rows,
+        })
     }
 
     /// The names, in the order of adding.
@@ -220,12 +246,33 @@ fn push(rows: &mut Vec<Row>, row: Row) -> Result<(), NoMemory>
     }
 }
 
-fn enable(rows: &mut [Row], name: &Text, on: bool)
-    ensures { rows.new ≡ map (with_flag name.now on) rows.old }
+/// Whether a name means some filter. Without a name nothing is asked.
+fn is_there(rows: &[Row], name: Option<&Text>) -> bool
+    ensures { result ≡ is_there (option_copied name.entry) rows.now }
+{
+    match name {
+        Some(name) => is_taken(rows, name),
+        None => true,
+    }
+}
+
+fn switch_rows(rows: &mut [Row], name: Option<&Text>, switch: Switch)
+    ensures { rows.new ≡ map (with_switch (option_copied name.entry) switch) rows.old }
 {
     for row in rows.iter_mut() {
-        row.enable(name, on);
+        row.switch(name, switch);
     }
+}
+
+fn copies(alloc: Global, rows: &[Row]) -> Result<Vec<Row>, NoMemory>
+    ensures { IfOk result (λ copies. copies.items ≡ rows.now) }
+{
+    let mut copies = Vec::with_capacity(alloc, rows.len())?;
+    for row in rows {
+        let copy = row.copy(alloc)?;
+        copies.push_reserved(copy);
+    }
+    Ok(copies)
 }
 
 /// Whether a filter hides a line. The masks and the tags are looked at before a pattern is searched.

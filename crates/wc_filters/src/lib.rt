@@ -10,6 +10,7 @@ mod row;
 mod search;
 mod seeker;
 mod sieve;
+mod switch;
 
 pub use filter::Filter;
 pub use filters::{Filters, NameIter};
@@ -17,3 +18,4 @@ pub use line_parts::Tags;
 pub use masks::{buffers_match, tags_match};
 pub use refused::FilterRefused;
 pub use seeker::Seeker;
+pub use switch::Switch;

@@ -1,6 +1,7 @@
 ghost use Rattle.std.specs.Prelude.{◌≡◌, IfOk};
+ghost use Rattle.std.specs.Option.{option_copied};
 ghost use Rattle.wc_filters.specs.Hides.{concerns, takes};
-ghost use Rattle.wc_filters.specs.Kept.{is_named, with_flag, new_filter};
+ghost use Rattle.wc_filters.specs.Kept.{is_named, is_meant, with_switch, new_filter};
 ghost use Rattle.wc_filters.specs.Parts.{tags_in};
 ghost use Rattle.wc_filters.specs.Patterns.{search_of};
 
@@ -8,6 +9,7 @@ use crate::filter::Filter;
 use crate::line_parts::Tags;
 use crate::masks::{buffers_match, tags_match};
 use crate::search::Search;
+use crate::switch::Switch;
 use std::alloc::Global;
 use std::marker::Model;
 use wc_text::{NoMemory, Text};
@@ -74,13 +76,32 @@ impl Row {
         self.own.enabled
     }
 
-    /// Enables or disables the filter, if it has this name.
-    pub(crate) fn enable(&mut self, name: &Text, on: bool)
-        ensures { self.new ≡ with_flag name.now on self.old }
+    /// Whether a name means the filter. Without a name each is meant.
+    fn is_meant(&self, name: Option<&Text>) -> bool
+        ensures { result ≡ is_meant (option_copied name.entry) self.now }
     {
-        if self.is_named(name) {
-            self.own.enabled = on;
+        match name {
+            Some(name) => self.is_named(name),
+            None => true,
         }
+    }
+
+    /// Switches the filter's own flag, if it is meant.
+    pub(crate) fn switch(&mut self, name: Option<&Text>, switch: Switch)
+        ensures { self.new ≡ with_switch (option_copied name.entry) switch self.old }
+    {
+        if self.is_meant(name) {
+            self.own.enabled = switch.of(self.own.enabled);
+        }
+    }
+
+    /// The same filter in memory of its own.
+    pub(crate) fn copy(&self, alloc: Global) -> Result<Row, NoMemory>
+        ensures { IfOk result (λ row. row ≡ self.now) }
+    {
+        let own = self.own.copy(alloc)?;
+        let search = self.search.copy(alloc)?;
+        Ok(Row { own, search })
     }
 
     /// What the pattern asks.

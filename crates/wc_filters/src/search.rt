@@ -41,6 +41,17 @@ impl Search {
         })
     }
 
+    /// The same in memory of its own.
+    pub(crate) fn copy(&self, alloc: Global) -> Result<Search, NoMemory>
+        ensures { IfOk result (λ search. search ≡ self.now) }
+    {
+        Ok(Search {
+            negated: self.negated,
+            prefix: self.prefix.copy(alloc)?,
+            message: self.message.copy(alloc)?,
+        })
+    }
+
     /// Whether the verdicts on both patterns are that they are some.
     pub(crate) fn judge(&self, verdicts: &mut Verdicts) -> Result<bool, NoMemory>
         requires prefix { IsUtf8 self.now.prefix }

@@ -1,7 +1,0 @@
-use Rattle.std.proofs.Common.{◌≡◌, ◌++◌, map, take, drop}
-use Rattle.wc_filters.specs.Kept.{with_flag}
-use Rattle.wc_filters.proofs.filters.enable.Given as goal
-
--- the filters up to here are switched, and the others are as they were
-abbrev pub invariant-loop-row : goal.invariant-loop-row
-invariant-loop-row l = l.rows ≡ map (with_flag l.name l.on) (take l.row-index l.initial.rows) ++ drop l.row-index l.initial.rows

@@ -1,0 +1,3 @@
+pub mod Displayed
+pub mod Plans
+pub mod RulesView
