@@ -1,5 +1,5 @@
 -- Laws of the rows of links.
-use Rattle.std.proofs.Common.{◌≡◌, ◌≢◌, ℕ, zero, suc, ◌+◌, ◌<◌, ◌≤◌, Bool, true, false, ◌||◌, ◌&&◌, not, cond, eqb, ◌⊎◌, inl, inr, List, [], ◌∷◌, ◌++◌, length, map, set, get_or, Option, Some, None, refl, ap, subst, sym, IsTrue, IfSome, eqb-true, ◌∙◌, arith, All}
+use Rattle.std.proofs.Common.{◌≡◌, ◌≢◌, ℕ, zero, suc, ◌+◌, ◌<◌, ◌≤◌, Bool, true, false, ◌||◌, ◌&&◌, not, cond, eqb, ◌⊎◌, inl, inr, List, [], ◌∷◌, ◌++◌, length, map, set, get_or, Option, Some, None, refl, ap, subst, sym, IsTrue, IfSome, is_some, eqb-true, ◌∙◌, arith, All}
 use Rattle.std.proofs.lemmas.Grind.{common_steps}
 use Rattle.std.proofs.lemmas.Bool.{cases_lt}
 use Rattle.std.proofs.lemmas.Bool.Decides.{nat_tests}
@@ -176,3 +176,8 @@ removed_part p e rows i k a place j =
 pub placed_there : (rows : List Row) (k : ℕ) (r : Option ℕ) → PlaceOf number_of k rows r → IfSome r (λ place. IsTrue (is_there rows k))
 placed_there rows k None p = tt
 placed_there rows k (Some place) p = ap has (p.found no_row)
+
+-- only a link that has a place is there
+pub placed_alone : (rows : List Row) (k : ℕ) (r : Option ℕ) → PlaceOf number_of k rows r → is_there rows k ≡ is_some r
+placed_alone rows k None p = ap has p
+placed_alone rows k (Some place) p = ap has (p.found no_row)

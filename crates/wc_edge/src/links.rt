@@ -4,6 +4,8 @@ ghost use Rattle.std.specs.Prelude.{IfSome, IsTrue, take, if◌then◌else◌};
 ghost use Rattle.wc_outside.specs.Keyed.{IsKeyPlace, PlaceOf};
 ghost use Rattle.wc_edge.specs.Rows.{number_of, is_there, is_undrained, is_blocked};
 ghost use Rattle.wc_edge.specs.Rows.{IsAscending, SourcesReported};
+ghost use Rattle.wc_edge.specs.Sources.{sources_of};
+ghost use Rattle.mio.specs.Events.{items};
 
 use crate::rows::{Row, place_of, set_blocked, set_undrained};
 use crate::streams::Streams;
@@ -128,7 +130,7 @@ impl Links {
         set_blocked(&mut self.rows, place, link, blocked);
     }
 
-    /// Reports the sources that the last wait fetched.
+    /// Reports the source of each event that the last wait fetched, where it is still there.
     pub(crate) fn report<R: Net + Clock + RandomSource>(
         &mut self,
         streams: &mut Streams<'_, R>,
@@ -138,6 +140,8 @@ impl Links {
         ensures used { self.new.used ≡ self.old.used }
         ensures reported { SourcesReported self.old.rows.items self.new.rows.items listening.old
             listening.new (take ready.new.count ready.new.tokens) }
+        ensures handed { take ready.new.count ready.new.tokens
+            ≡ sources_of (is_there self.old.rows.items) (items streams.old.events) }
     {
         streams.report(&mut self.rows, listening, ready);
     }

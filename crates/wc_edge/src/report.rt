@@ -2,6 +2,7 @@ ghost use Rattle.std.specs.Prelude.{◌≡◌, ◌+◌, ◌<◌, ◌≤◌, ◌+
 ghost use Rattle.mio.specs.Events.{items};
 ghost use Rattle.wc_outside.specs.Happenings.{IsThere};
 ghost use Rattle.wc_edge.specs.Rows.{number_of, is_there, IsAscending, SourcesReported};
+ghost use Rattle.wc_edge.specs.Sources.{source_of, sources_of};
 
 use crate::rows::{Row, place_of, set_row};
 use crate::streams::{LISTENER, Peer};
@@ -38,10 +39,11 @@ fn mark(rows: &mut [Row], listening: &mut bool, source: Token)
 }
 
 /// The source of an event, where it is still there. Notes what the event says of reading a link.
-#[tactic(auto, using(crate::proofs::RowLemmas::placed_there))]
+#[tactic(auto, using(crate::proofs::RowLemmas::placed_alone))]
 fn source_of(rows: &[Row], peers: &mut [Peer], event: &Event) -> Option<Token>
     requires { IsAscending (map number_of rows.now) }
-    ensures { IfSome result (IsThere (is_there rows.now)) }
+    ensures there { IfSome result (IsThere (is_there rows.now)) }
+    ensures source { result ≡ source_of (is_there rows.now) event.now }
 {
     if event.token().0 == LISTENER {
         return Some(Token::Listener);
@@ -54,7 +56,8 @@ fn source_of(rows: &[Row], peers: &mut [Peer], event: &Event) -> Option<Token>
     Some(Token::Link(link))
 }
 
-/// Reports the sources of events that were fetched. Those of closed links are passed over.
+/// Reports the source of each event that was fetched, in their order. Only events of closed links
+/// are passed over.
 pub(crate) fn report(
     events: &Events,
     rows: &mut [Row],
@@ -64,8 +67,10 @@ pub(crate) fn report(
 )
     requires few { length (items events.now) ≤ 64 }
     requires ascending { IsAscending (map number_of rows.old) }
-    ensures { SourcesReported rows.old rows.new listening.old listening.new
+    ensures reported { SourcesReported rows.old rows.new listening.old listening.new
         (take ready.new.count ready.new.tokens) }
+    ensures handed { take ready.new.count ready.new.tokens
+        ≡ sources_of (is_there rows.old) (items events.now) }
 {
     ready.count = 0;
     for event in events.iter() {

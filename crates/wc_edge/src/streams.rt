@@ -1,9 +1,12 @@
-ghost use Rattle.std.specs.Prelude.{◌≡◌, ◌<◌, ◌≤◌, length, map, take, IfOk, IfErr};
+ghost use Rattle.std.specs.Prelude.{◌≡◌, ◌<◌, ◌≤◌, ◌∷◌, [], length, map, take, IfOk, IfErr};
 ghost use Rattle.std.specs.IoError.{raw_os_error};
+ghost use Rattle.std.specs.Net.Addr.{ipv4_octets, IsV4And};
+ghost use Rattle.std.specs.Net.Socket.{socket_ip, socket_port};
 ghost use Rattle.mio.specs.Events.{items, capacity as events_capacity};
 ghost use Rattle.wc_outside.specs.Happenings.{IsReadWithin, IsPutWithin};
 ghost use Rattle.wc_edge.specs.Misses.{miss_of};
-ghost use Rattle.wc_edge.specs.Rows.{number_of, IsAscending, SourcesReported};
+ghost use Rattle.wc_edge.specs.Rows.{number_of, is_there, IsAscending, SourcesReported};
+ghost use Rattle.wc_edge.specs.Sources.{sources_of};
 
 use crate::links::SLOTS;
 use crate::misses::{Miss, miss_of};
@@ -74,6 +77,14 @@ fn moment<R: Clock>(rt: &R) -> io::Result<u64> {
     }
 }
 
+/// The address of a listener at this port, which nobody reaches from another computer: 127.0.0.1.
+fn local_address(port: u16) -> SocketAddr
+    ensures ip { IsV4And (socket_ip result) (λ ip. ipv4_octets ip ≡ 127 ∷ 0 ∷ 0 ∷ 1 ∷ []) }
+    ensures port { socket_port result ≡ port }
+{
+    SocketAddr::from((Ipv4Addr::LOCALHOST, port))
+}
+
 impl<'a, R: Net + Clock + RandomSource> Streams<'a, R> {
     pub(crate) fn new(rt: &'a R, alloc: Global) -> io::Result<Streams<'a, R>> {
         Ok(Streams {
@@ -88,8 +99,7 @@ impl<'a, R: Net + Clock + RandomSource> Streams<'a, R> {
 
     /// Opens the listener at this port of 127.0.0.1.
     pub(crate) fn listen(&mut self, port: u16) -> io::Result<()> {
-        let address = SocketAddr::from((Ipv4Addr::LOCALHOST, port));
-        let mut listener = TcpListener::bind(self.rt, address)?;
+        let mut listener = TcpListener::bind(self.rt, local_address(port))?;
         self.poll
             .registry()
             .register(&mut listener, mio::Token(LISTENER), Interest::READABLE)?;
@@ -122,11 +132,14 @@ impl<'a, R: Net + Clock + RandomSource> Streams<'a, R> {
         moment(self.rt)
     }
 
-    /// Reports the sources that the last wait fetched. Those of closed links are passed over.
+    /// Reports the source of each event that the last wait fetched. Only events of closed links are
+    /// passed over.
     pub(crate) fn report(&mut self, rows: &mut [Row], listening: &mut bool, ready: &mut Ready)
         requires { IsAscending (map number_of rows.old) }
-        ensures { SourcesReported rows.old rows.new listening.old listening.new
+        ensures reported { SourcesReported rows.old rows.new listening.old listening.new
             (take ready.new.count ready.new.tokens) }
+        ensures handed { take ready.new.count ready.new.tokens
+            ≡ sources_of (is_there rows.old) (items self.old.events) }
     {
         report(&self.events, rows, &mut self.peers, listening, ready);
     }
