@@ -1,0 +1,8 @@
+use Rattle.std.proofs.Common.{◌≡◌, take}
+use Rattle.std.specs.Prelude.{string_bytes}
+use Rattle.std.specs.Str.{encode_utf8_all}
+use Rattle.wc_triggers.proofs.replacements.spelled.Given as goal
+
+abbrev pub invariant-loop-character : goal.invariant-loop-character
+invariant-loop-character l =
+    string_bytes l.text ≡ encode_utf8_all (take l.character-index l.characters)

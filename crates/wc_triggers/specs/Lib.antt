@@ -1,0 +1,12 @@
+pub mod Arguments
+pub mod Commands
+pub mod Hooks
+pub mod Kept
+pub mod Keys
+pub mod NumbersLeft
+pub mod Outcomes
+pub mod Replacements
+pub mod Seen
+pub mod Slashes
+pub mod Triggers
+pub mod Words
