@@ -1,5 +1,5 @@
 -- What is told of buffers keeps the rules of messages.
-use Rattle.std.proofs.Common.{◌≡◌, ℕ, ℤ, true, ◌&&◌, List, [], ◌∷◌, filter, map, Option, None, Some, option_map, IfSome, refl, sym, subst}
+use Rattle.std.proofs.Common.{◌≡◌, ℕ, true, ◌&&◌, List, [], ◌∷◌, filter, map, Option, None, Some, option_map, IfSome, refl, sym, subst}
 use Rattle.std.specs.List.{list_all}
 use Rattle.std.specs.Str.{IsUtf8, is_utf8}
 use Rattle.std.proofs.lemmas.Str.{is_utf8-from_IsUtf8}
@@ -11,6 +11,7 @@ use Rattle.wc_buffers.specs.Kept.{AreVars, IsBuffer}
 use Rattle.wc_lines.specs.declared.line.Line.{Line}
 use Rattle.wc_model.specs.declared.notice.Notice.{Notice}
 use Rattle.wc_model.specs.declared.notice.Trim.{Trim}
+use Rattle.wc_model.specs.Parts.{is_flipped}
 use Rattle.wc_objects.specs.declared.kind.Kind.{Kind}
 use Rattle.wc_objects.specs.declared.kind.Kind.TheVariants as k
 use Rattle.wc_objects.specs.declared.object.Object.{Object}
@@ -22,7 +23,7 @@ use Rattle.wc_objects.specs.Forms.{kinds_of, simple_is, value_is, values_are, it
 use Rattle.wc_keys.specs.declared.key.KeyList.TheVariants as l
 use Rattle.wc_keys.specs.Events.{buffer_path, line_path}
 use Rattle.wc_keys.proofs.ListTexts.{list_is_text, list_names_kinds, buffer_path_is_text, line_path_is_text}
-use Rattle.wc_events.specs.BufferObjects.{text, pair_of, table, about, told_objects, named_keys, placed_keys, opened_keys, renamed_keys, title_keys, vars_keys, named_values, placed_values, opened_values, renamed_values, title_values, vars_values, named_objects, placed_objects, opened_objects, renamed_objects, title_objects, vars_objects, flag_keys, flag_item, flag_items, flag_objects, is_flipped, trim_keys, trim_values, trim_objects}
+use Rattle.wc_events.specs.BufferObjects.{text, pair_of, table, about, told_objects, named_keys, placed_keys, opened_keys, renamed_keys, title_keys, vars_keys, named_values, placed_values, opened_values, renamed_values, title_values, vars_values, named_objects, placed_objects, opened_objects, renamed_objects, title_objects, vars_objects, flag_keys, flag_item, flag_items, flag_objects, trim_keys, trim_values, trim_objects}
 use Rattle.wc_events.proofs.Formed.{int_formed, ptr_formed, chr_formed, str_formed}
 
 pairs_simple : (vars : List Pair) → AreVars vars → list_all (λ pair. simple_is k.Str pair.0 && simple_is k.Str pair.1) (map pair_of vars) ≡ true

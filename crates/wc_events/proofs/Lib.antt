@@ -1,6 +1,7 @@
 pub mod DumpLemmas
 pub mod AddedItem
 pub mod EventsFormed
+pub mod FlipLemmas
 pub mod Formed
 pub mod HdaMessages
 pub mod NickBytes

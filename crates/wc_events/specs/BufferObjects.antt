@@ -1,5 +1,5 @@
 -- What a client is told of buffers: the event of each notice, and the dump of all buffers.
-use Rattle.std.specs.Prelude.{ℕ, ◌+◌, ◌-◌, ◌^◌, ◌==◌, ℤ, pos, Bool, false, nat_le, List, [], ◌∷◌}
+use Rattle.std.specs.Prelude.{ℕ, ◌+◌, ◌-◌, ℤ, pos, Bool, false, List, [], ◌∷◌}
 use Rattle.std.specs.Prelude.{◌++◌, map, filter, Option, Some, None, option_map, unwrap_or}
 use Rattle.std.specs.Prelude.{if◌then◌else◌, codes, bytes_eq}
 use Rattle.std.specs.List.{filter_map, list_any}
@@ -17,6 +17,7 @@ use Rattle.wc_model.specs.declared.notice.EventKind.TheVariants as kind
 use Rattle.wc_model.specs.declared.notice.Notice.{Notice}
 use Rattle.wc_model.specs.declared.notice.Trim.{Trim}
 use Rattle.wc_model.specs.World.{World, lines_at}
+use Rattle.wc_model.specs.Parts.{is_flipped}
 use Rattle.wc_objects.specs.declared.kind.Kind.TheVariants as k
 use Rattle.wc_objects.specs.declared.object.Object.{Object}
 use Rattle.wc_objects.specs.declared.object.Object.TheVariants as o
@@ -162,6 +163,37 @@ vars_objects notice e = about vars_keys notice.buffer (vars_values notice e)
 abbrev pub named_objects : Notice → List Object
 named_objects notice = about named_keys notice.buffer (named_values notice)
 
+-- ---- the lines of one buffer whose flags differ
+
+abbrev pub flag_keys : List ℕ
+flag_keys = list_text l.Flags
+
+abbrev pub flag_item : Handle → Line → HdaItem
+flag_item buffer line = roll-HdaItem
+    (record {
+      pointers = line.content.0 ∷ [];
+      values = filter_map (line_value buffer line) (keys_in l.Flags);
+    })
+
+abbrev pub flag_items : Handle → List Handle → List Line → List HdaItem
+flag_items buffer flips lines = map (flag_item buffer) (filter (is_flipped flips) lines)
+
+abbrev pub flags_about : List HdaItem → List Object
+flags_about items =
+    o.Hda (roll-Hda (record {
+      path = Some line_path;
+      keys = Some flag_keys;
+      items = items;
+    })) ∷ []
+
+abbrev pub flag_objects : Handle → List Handle → List Line → List Object
+flag_objects buffer flips lines = flags_about (flag_items buffer flips lines)
+
+-- none where no line of the buffer is among those that are named
+abbrev pub flagged_objects : Handle → List Handle → List Line → Option (List Object)
+flagged_objects buffer flips lines = if list_any (is_flipped flips) lines
+    then Some (flag_objects buffer flips lines) else None
+
 -- ---- how many of the oldest lines of a buffer went
 
 abbrev pub trim_value : Trim → Key → Option Object
@@ -183,9 +215,9 @@ abbrev pub trimmed_objects : List Trim → Option (List Object)
 trimmed_objects [] = None
 trimmed_objects (trim ∷ trims) = Some (trim_objects trim)
 
--- The objects of the event of a notice, in the world after the change. Flags of lines are told of
--- each buffer by itself, nicklists are pushed, of another limit the lines that went are told, and
--- nothing is told of a buffer that is not there.
+-- The objects of the event of a notice, in the world after the change. Flags of lines and lines that
+-- went are told of each buffer by itself, nicklists are pushed, and nothing is told of a buffer that is
+-- not there.
 unfoldable pub objects_of : World → EventKind → Notice → Option (List Object)
 objects_of world kind.Opened notice = option_map (opened_objects notice)
     (entry_of notice.buffer world.groups)
@@ -208,7 +240,8 @@ objects_of world kind.Cleared notice = Some (named_objects notice)
 objects_of world kind.Closing notice = Some (named_objects notice)
 objects_of world kind.LineAdded notice = option_map (added_objects notice.buffer)
     (newest (lines_at world notice.buffer.0))
-objects_of world kind.LineDataChanged notice = None
+objects_of world kind.LineDataChanged notice = flagged_objects notice.buffer notice.flips
+    (lines_at world notice.buffer.0)
 objects_of world kind.Nicklist notice = None
 objects_of world kind.NicklistDiff notice = None
 objects_of world kind.NickTouched notice = None
@@ -222,32 +255,6 @@ event_objects world notice = objects_of world notice.kind notice
 abbrev pub event_of : World → Notice → Option WireMessage
 event_of world notice = option_map (λ objects. record { id = id_of notice.kind; objects = objects })
     (event_objects world notice)
-
--- ---- the lines of one buffer whose flags differ
-
-abbrev pub flag_keys : List ℕ
-flag_keys = list_text l.Flags
-
-abbrev pub is_flipped : List Handle → Line → Bool
-is_flipped flips line = list_any (λ (flip : Handle). flip.0 == line.content.0) flips
-
-abbrev pub flag_item : Handle → Line → HdaItem
-flag_item buffer line = roll-HdaItem
-    (record {
-      pointers = line.content.0 ∷ [];
-      values = filter_map (line_value buffer line) (keys_in l.Flags);
-    })
-
-abbrev pub flag_items : Handle → List Handle → List Line → List HdaItem
-flag_items buffer flips lines = map (flag_item buffer) (filter (is_flipped flips) lines)
-
-abbrev pub flag_objects : Handle → List Handle → List Line → List Object
-flag_objects buffer flips lines =
-    o.Hda (roll-Hda (record {
-      path = Some line_path;
-      keys = Some flag_keys;
-      items = flag_items buffer flips lines;
-    })) ∷ []
 
 -- ---- the dump of all buffers
 

@@ -11,6 +11,7 @@ ghost use Rattle.wc_objects.specs.Forms.{well_formed};
 
 use crate::buffers::row_and_vars;
 use crate::event_values::{noticed_values, told_values};
+use crate::flags::noticed_flags;
 use crate::line_objects::line_added;
 use crate::trims::first_trimmed;
 use crate::values::about;
@@ -81,9 +82,9 @@ fn newest_told(
     Ok(Some(line_added(alloc, buffer, line)?))
 }
 
-/// The object of the event of a notice, in the world after the change. None where nothing is told
-/// in one event: of flags of lines, of nicklists, which are pushed, of another limit of lines, and of
-/// a buffer or a line that is not there.
+/// The object of the event of a notice, in the world after the change. None where nothing is told:
+/// of nicklists, which are pushed, of another limit of lines, of flags where no line of the buffer is
+/// among those that differ, and of a buffer or a line that is not there.
 #[rattlefmt::skip]
 #[tactic(auto, using(
     crate::proofs::EventsFormed::opened_told,
@@ -121,8 +122,8 @@ pub fn event_objects(
         EventKind::Cleared | EventKind::Closing => Ok(Some(named_object(alloc, notice)?)),
         EventKind::LineAdded => newest_told(alloc, world, notice.buffer),
         EventKind::LinesTrimmed => first_trimmed(alloc, &notice.trims),
-        EventKind::LineDataChanged
-        | EventKind::Nicklist
+        EventKind::LineDataChanged => noticed_flags(alloc, world, notice),
+        EventKind::Nicklist
         | EventKind::NicklistDiff
         | EventKind::NickTouched
         | EventKind::LimitSet => Ok(None),

@@ -5,6 +5,7 @@ mod buffers;
 mod event_values;
 mod events;
 mod flags;
+mod flip_lookup;
 mod front;
 mod lent_nick;
 mod lent_value;
@@ -20,7 +21,8 @@ mod value_bytes;
 mod values;
 
 pub use events::event_objects;
-pub use flags::flag_objects;
+pub use flags::flagged_objects;
+pub use flip_lookup::{FlipLookup, has_flips};
 pub use line_objects::line_added;
 pub use nick_writer::write_nicks;
 pub use nicks::{Nicks, push_kind};

@@ -10,7 +10,7 @@ use crate::lent_value::LentValue;
 use crate::values::{about, count};
 use std::alloc::Global;
 use wc_keys::{Key, KeyList};
-use wc_model::Trim;
+use wc_model::{Few, Trim};
 use wc_objects::Object;
 use wc_text::{Items, NoMemory};
 
@@ -54,7 +54,7 @@ pub fn trim_objects(alloc: Global, trim: Trim) -> Result<[Object; 1], NoMemory>
 /// The same of the first of these buffers. None where there is none.
 pub(crate) fn first_trimmed(
     alloc: Global,
-    trims: &Items<Trim>,
+    trims: &Few<Trim>,
 ) -> Result<Option<[Object; 1]>, NoMemory>
     ensures objects { IfOk result (λ told. told ≡ trimmed_objects trims.now) }
     ensures formed { IfOk result (λ told. IfSome told (λ objects. well_formed objects ≡ true)) }

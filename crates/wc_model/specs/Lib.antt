@@ -1,4 +1,5 @@
 pub mod Apply
+pub mod Few
 pub mod Laws
 pub mod Levels
 pub mod LineCuts

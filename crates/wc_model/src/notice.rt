@@ -1,3 +1,4 @@
+use crate::few::Few;
 use wc_text::{Handle, Items, Text};
 
 /// What happened, as an event of the relay protocol tells it.
@@ -53,9 +54,9 @@ pub struct Notice {
     pub prev: Handle,
     pub next: Handle,
     /// The printed line by its own handle, and else nothing.
-    pub lines: Items<Handle>,
+    pub lines: Few<Handle>,
     /// The contents of the lines whose flag differs, in the order of buffers and from the oldest.
     pub flips: Items<Handle>,
     /// The buffers that lost lines, since they held as many as they may, in the order of buffers.
-    pub trims: Items<Trim>,
+    pub trims: Few<Trim>,
 }

@@ -22,18 +22,18 @@ use Rattle.wc_model.specs.declared.notice.EventKind.TheVariants as event
 use Rattle.wc_model.specs.declared.notice.Notice.{Notice}
 use Rattle.wc_buffers.specs.declared.refused.BufferRefused.{BufferRefused}
 use Rattle.wc_model.specs.declared.refused.ChangeRefused.{ChangeRefused}
-use Rattle.wc_model.specs.World.{World}
+use Rattle.wc_model.specs.World.{World, lines_at}
 use Rattle.wc_model.specs.Order.{order, before_in}
 use Rattle.wc_model.specs.Apply.{refusal_of, after_of, of_buffers, or_else, row_of as new_row}
 use Rattle.wc_model.specs.Notices.{notice_of, notice_at, var_kind, name_in, flips_between}
 use Rattle.wc_objects.specs.declared.object.Object.{Object}
-use Rattle.wc_events.specs.BufferObjects.{event_of, event_objects, objects_of, opened_objects, renamed_objects, title_objects, trim_objects, vars_objects}
+use Rattle.wc_events.specs.BufferObjects.{event_of, event_objects, objects_of, flagged_objects, opened_objects, renamed_objects, title_objects, trim_objects, vars_objects}
 use Rattle.wc_view.specs.declared.mirror_buffer.MirrorBuffer.{MirrorBuffer}
 use Rattle.wc_view.specs.declared.told_buffer.ToldBuffer.{ToldBuffer}
 use Rattle.wc_view.specs.Ids.{IsFree}
 use Rattle.wc_view.specs.Grouped.{MirrorGroups, key_of, put_after, move_group_at, merge_groups_at, with_told, with_edit, with_event}
 use Rattle.wc_view.specs.BufferFold.{fold_buffers}
-use Rattle.wc_view.specs.BufferViews.{shown_buffer, shown_groups, HasBuffers, AreGrouped, fold_told_buffers, BufferNoticeShows, BufferTrimShows}
+use Rattle.wc_view.specs.BufferViews.{shown_buffer, shown_groups, HasBuffers, AreGrouped, fold_told_buffers, BufferNoticeShows, BufferTrimShows, BufferFlagShows}
 use Rattle.wc_view.proofs.LineTold.{few_shown}
 use Rattle.wc_view.proofs.NoticeLaw.{other_id, message_of}
 use Rattle.wc_view.proofs.BufferTold.{cut, placed_told, opened_told, renamed_told, title_told, vars_told, opened_folds, renamed_folds, title_folds, added_folds, changed_folds, removed_folds, closing_folds, moved_folds, merged_folds, unmerged_folds, hidden_folds, unhidden_folds}
@@ -399,3 +399,7 @@ notice_shows id part world change are free accepted had =
 pub trim_shows : BufferTrimShows
 unfolding objects_of
 trim_shows id part world trim free = other_message id part event.LinesTrimmed (trim_objects trim) free refl
+
+pub flag_shows : BufferFlagShows
+unfolding objects_of
+flag_shows id part world flips buffer free = other_told id part event.LineDataChanged (flagged_objects (record { 0 = buffer }) flips (lines_at world buffer)) free refl

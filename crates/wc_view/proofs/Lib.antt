@@ -7,7 +7,8 @@ pub mod DumpLaw
 pub mod EachLemmas
 pub mod EditLemmas
 pub mod EntryLemmas
-pub mod FlipLaw
+pub mod FlagTold
+pub mod FlipLemmas
 pub mod FoldLemmas
 pub mod GroupLoops
 pub mod IdLemmas

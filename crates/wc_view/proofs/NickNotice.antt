@@ -11,15 +11,15 @@ use Rattle.wc_model.specs.declared.change.What.{What}
 use Rattle.wc_model.specs.declared.change.What.TheVariants.{Add, Close, MoveTo, MergeInto, Unmerge, Hide, Unhide, Rename, ShortName, Title, SetVar, RemoveVar, Print, Clear, Flips, AddGroup, AddNick, RemoveGroup, RemoveNick, ChangeGroup, ChangeNick, Limit}
 use Rattle.wc_model.specs.declared.notice.EventKind.{EventKind}
 use Rattle.wc_model.specs.declared.notice.EventKind.TheVariants as event
-use Rattle.wc_model.specs.World.{World}
+use Rattle.wc_model.specs.World.{World, lines_at}
 use Rattle.wc_model.specs.Apply.{after_of, row_of as new_row}
 use Rattle.wc_model.specs.Notices.{notice_of, var_kind}
 use Rattle.wc_model.specs.Touches.{told_after}
 use Rattle.wc_objects.specs.declared.object.Object.{Object}
-use Rattle.wc_events.specs.BufferObjects.{event_of, objects_of, opened_objects, trim_objects}
+use Rattle.wc_events.specs.BufferObjects.{event_of, objects_of, flagged_objects, opened_objects, trim_objects}
 use Rattle.wc_view.specs.Ids.{IsFree}
 use Rattle.wc_view.specs.NickFold.{NickPart, with_opened, without_named, fold_nicks}
-use Rattle.wc_view.specs.NickViews.{HasNicks, HasLists, fold_told_nicks, NickNoticeShows, NickTrimShows}
+use Rattle.wc_view.specs.NickViews.{HasNicks, HasLists, fold_told_nicks, NickNoticeShows, NickTrimShows, NickFlagShows}
 use Rattle.wc_view.proofs.EntryLemmas.{by_bool}
 use Rattle.wc_view.proofs.LineTold.{named_told}
 use Rattle.wc_view.proofs.NoticeLaw.{other_id, message_of, told_of}
@@ -131,3 +131,7 @@ notice_shows id told world change lists same free accepted = change_shows id tol
 pub trim_shows : NickTrimShows
 unfolding objects_of
 trim_shows id part world trim free = quiet_message id part event.LinesTrimmed (trim_objects trim) refl free
+
+pub flag_shows : NickFlagShows
+unfolding objects_of
+flag_shows id part world flips buffer free = quiet_told id part event.LineDataChanged (flagged_objects (record { 0 = buffer }) flips (lines_at world buffer)) refl free

@@ -1,6 +1,7 @@
 -- What a client has of the buffers of a world.
 use Rattle.std.specs.Prelude.{◌≡◌, ℕ, ◌^◌, ◌-◌, ◌<◌, ◌≤◌, true, List, length, map, Option}
 use Rattle.std.specs.Prelude.{Some, None}
+use Rattle.wc_text.specs.declared.names.Handle.{Handle}
 use Rattle.wc_buffers.specs.declared.row.BufferEntry.{BufferEntry}
 use Rattle.wc_buffers.specs.Groups.{AllFilled, has, times}
 use Rattle.wc_buffers.specs.Calls.{handle_of}
@@ -8,7 +9,7 @@ use Rattle.wc_model.specs.declared.change.Change.{Change}
 use Rattle.wc_model.specs.World.{World}
 use Rattle.wc_model.specs.Apply.{refusal, after}
 use Rattle.wc_model.specs.Notices.{notice}
-use Rattle.wc_model.specs.Parts.{trim_part}
+use Rattle.wc_model.specs.Parts.{flag_part, trim_part}
 use Rattle.wc_model.specs.declared.notice.Trim.{Trim}
 use Rattle.wc_objects.specs.declared.object.WireMessage.{WireMessage}
 use Rattle.wc_events.specs.BufferObjects.{event_of, buffer_dump}
@@ -69,3 +70,9 @@ BufferNoticeShows = (id : List ℕ) (part : Option MirrorGroups) (world : World)
 abbrev pub BufferTrimShows : Type 0
 BufferTrimShows = (id : List ℕ) (part : Option MirrorGroups) (world : World) (trim : Trim) →
     IsFree id → fold_told_buffers id part (event_of world (trim_part trim)) ≡ part
+
+-- Nor does that of lines whose flags differ.
+abbrev pub BufferFlagShows : Type 0
+BufferFlagShows = (id : List ℕ) (part : Option MirrorGroups) (world : World) (flips : List Handle)
+    (buffer : ℕ)
+    → IsFree id → fold_told_buffers id part (event_of world (flag_part flips buffer)) ≡ part

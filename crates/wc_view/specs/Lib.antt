@@ -3,7 +3,6 @@ pub mod BufferViews
 pub mod Each
 pub mod Entries
 pub mod Flags
-pub mod Flipped
 pub mod Fold
 pub mod Grouped
 pub mod Ids

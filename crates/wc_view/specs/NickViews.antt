@@ -13,7 +13,7 @@ use Rattle.wc_model.specs.declared.change.Change.{Change}
 use Rattle.wc_model.specs.World.{World, rows_at}
 use Rattle.wc_model.specs.Apply.{refusal, after}
 use Rattle.wc_model.specs.Notices.{notice}
-use Rattle.wc_model.specs.Parts.{trim_part}
+use Rattle.wc_model.specs.Parts.{flag_part, trim_part}
 use Rattle.wc_model.specs.declared.notice.Trim.{Trim}
 use Rattle.wc_model.specs.Touches.{told_after}
 use Rattle.wc_objects.specs.declared.object.WireMessage.{WireMessage}
@@ -79,3 +79,9 @@ PushShows = (id : List ℕ) (told : NickPart) (root buffer : Handle) (before now
 abbrev pub NickTrimShows : Type 0
 NickTrimShows = (id : List ℕ) (part : Option NickPart) (world : World) (trim : Trim) →
     IsFree id → fold_told_nicks id part (event_of world (trim_part trim)) ≡ Ok part
+
+-- Nor does that of lines whose flags differ.
+abbrev pub NickFlagShows : Type 0
+NickFlagShows = (id : List ℕ) (part : Option NickPart) (world : World) (flips : List Handle)
+    (buffer : ℕ)
+    → IsFree id → fold_told_nicks id part (event_of world (flag_part flips buffer)) ≡ Ok part

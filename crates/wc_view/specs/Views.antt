@@ -3,15 +3,14 @@ use Rattle.std.specs.Prelude.{◌≡◌, ℕ, ◌^◌, ◌-◌, ◌<◌, ◌≤�
 use Rattle.std.specs.Prelude.{length, map, fold, Option, None, Some, if◌then◌else◌, ◌∷◌}
 use Rattle.std.specs.List.{filter_map}
 use Rattle.wc_lines.specs.declared.line.Line.{Line}
+use Rattle.wc_lines.specs.Ring.{has_content}
 use Rattle.wc_buffers.specs.Groups.{has, times}
 use Rattle.wc_buffers.specs.Calls.{handle_of}
 use Rattle.wc_model.specs.declared.change.Change.{Change}
-use Rattle.wc_model.specs.declared.change.What.{What}
-use Rattle.wc_model.specs.declared.change.What.TheVariants.{Rename, Flips}
 use Rattle.wc_model.specs.World.{World, lines_at as lines_in}
 use Rattle.wc_model.specs.Apply.{refusal, after}
 use Rattle.wc_model.specs.Notices.{notice}
-use Rattle.wc_model.specs.Parts.{parts_of}
+use Rattle.wc_model.specs.Parts.{flag_parts, parts_of}
 use Rattle.wc_model.specs.declared.notice.Notice.{Notice}
 use Rattle.wc_objects.specs.declared.object.WireMessage.{WireMessage}
 use Rattle.wc_events.specs.LineObjects.{line_dump}
@@ -87,11 +86,11 @@ DumpShows = (limit : Option ℕ) (id : List ℕ) (part : Option Part) (world : W
 abbrev pub fold_all : Option ℕ → List ℕ → Option Part → List WireMessage → Option Part
 fold_all limit id part messages = fold (fold_lines limit id) part messages
 
--- The parts of a notice that a client asked for: all of them, or where it keeps a limit of its own the
--- event of the change alone.
+-- The parts of a notice that a client asked for: all of them, or where it keeps a limit of its own
+-- those that are not of lines that went.
 abbrev pub heard_parts : Option ℕ → World → Notice → List Notice
 heard_parts None world notice = parts_of world notice
-heard_parts (Some limit) world notice = notice ∷ []
+heard_parts (Some limit) world notice = notice ∷ flag_parts world notice.flips
 
 -- the events of these, where there are such
 abbrev pub part_events : World → List Notice → List WireMessage
@@ -102,16 +101,16 @@ abbrev pub change_events : Option ℕ → World → Change → List WireMessage
 change_events limit world change = part_events (after world change)
     (heard_parts limit (after world change) (notice world change))
 
--- a change that sets no flags of lines
-abbrev pub SetsNoFlags : What → Type 0
-SetsNoFlags (Rename name flips) = flips ≡ []
-SetsNoFlags (Flips flips) = ⊥
-SetsNoFlags _ = Unit {0}
+-- no two lines have one content
+abbrev pub ContentsDiffer : List Line → Type 0
+ContentsDiffer [] = Unit {0}
+ContentsDiffer (line ∷ lines) = (has_content line.content lines ≡ false) × ContentsDiffer lines
 
 -- After the events of a change a client that had the lines of the world has those of the world after
 -- it: without a limit of its own, or with that of the world before and after.
 abbrev pub NoticeShows : Type 0
 NoticeShows = (limit : Option ℕ) (id : List ℕ) (part : Option Part) (world : World) (change : Change)
     → IsMirrorable world → Suits limit world → Suits limit (after world change) → IsFree id →
-    refusal world change ≡ None → SetsNoFlags change.what → HasAll part world
+    refusal world change ≡ None
+    → ((buffer : ℕ) → ContentsDiffer (lines_in (after world change) buffer)) → HasAll part world
     → HasAll (fold_all limit id part (change_events limit world change)) (after world change)

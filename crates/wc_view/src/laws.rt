@@ -1,8 +1,9 @@
 //! What holds of each mirror of the lines of a world.
 //! What holds of each mirror of the nicklists of a world.
 ghost use Rattle.wc_view.specs.BufferViews.{BufferDumpShows, BufferNoticeShows, BufferTrimShows};
-ghost use Rattle.wc_view.specs.Flipped.{FlipsShow};
+ghost use Rattle.wc_view.specs.BufferViews.{BufferFlagShows};
 ghost use Rattle.wc_view.specs.NickViews.{NickDumpShows, NickNoticeShows, NickTrimShows, PushShows};
+ghost use Rattle.wc_view.specs.NickViews.{NickFlagShows};
 ghost use Rattle.wc_view.specs.Views.{DumpShows, NoticeShows};
 
 /// After the reply to the line dump a client has the lines of the world.
@@ -11,16 +12,10 @@ pub fn dump_shows_world()
 {}
 
 /// A client that has the lines of a world has those of the world after a change after the events of
-/// the change: with those of lines that went where it keeps no limit of its own, and without them
-/// where it keeps that of the world, which stays.
+/// the change, those of lines whose flags differ too: with those of lines that went where it keeps no
+/// limit of its own, and without them where it keeps that of the world, which stays.
 pub fn notice_shows_world()
     ensures { NoticeShows }
-{}
-
-/// The same of any change, where after its events each buffer with lines whose flags differ has an
-/// event of these.
-pub fn flips_show_world()
-    ensures { FlipsShow }
 {}
 
 /// After the reply to the buffer dump a client has the buffers of the world in their groups.
@@ -54,4 +49,10 @@ pub fn push_shows_nicks()
 pub fn trims_show_lines_alone()
     ensures buffers { BufferTrimShows }
     ensures nicks { NickTrimShows }
+{}
+
+/// Nor does that of lines whose flags differ.
+pub fn flags_show_lines_alone()
+    ensures buffers { BufferFlagShows }
+    ensures nicks { NickFlagShows }
 {}

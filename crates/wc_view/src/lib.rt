@@ -24,8 +24,9 @@ mod trims;
 mod values;
 
 pub use laws::{
-    dump_shows_buffers, dump_shows_nicks, dump_shows_world, flips_show_world, notice_shows_buffers,
-    notice_shows_nicks, notice_shows_world, push_shows_nicks, trims_show_lines_alone,
+    dump_shows_buffers, dump_shows_nicks, dump_shows_world, flags_show_lines_alone,
+    notice_shows_buffers, notice_shows_nicks, notice_shows_world, push_shows_nicks,
+    trims_show_lines_alone,
 };
 pub use mirror::{Mirror, MirrorRefused};
 pub use mirror_buffer::{MirrorBuffer, MirrorLine, SharedBuffer};

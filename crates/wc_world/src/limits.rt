@@ -10,7 +10,7 @@ ghost use Rattle.wc_world.specs.Near.{numbers};
 
 use crate::held::Held;
 use std::alloc::Global;
-use wc_model::Trim;
+use wc_model::{Few, Trim};
 use wc_text::{Handle, Items, NoMemory};
 
 /// How many lines a buffer holds. One that is not there holds none.
@@ -35,13 +35,14 @@ fn push_trim(trims: &mut Items<Trim>, buffer: Handle, count: u32) -> Result<(), 
     Ok(())
 }
 
-/// The same of one buffer alone.
-pub(crate) fn one_trim(alloc: Global, buffer: Handle, count: u32) -> Result<Items<Trim>, NoMemory>
-    ensures { IfOk result (λ trims. trims ≡ trim_of buffer count) }
+/// The same of one buffer alone. It takes no memory.
+pub(crate) fn one_trim(alloc: Global, buffer: Handle, count: u32) -> Few<Trim>
+    ensures { result ≡ trim_of buffer count }
 {
-    let mut trims = Items::new(alloc);
-    push_trim(&mut trims, buffer, count)?;
-    Ok(trims)
+    if count == 0 {
+        return Few::none(alloc);
+    }
+    Few::one(Trim { buffer, count })
 }
 
 /// How many lines of each of these buffers pass the limit, in their order.
@@ -50,7 +51,7 @@ pub(crate) fn all_trims(
     held: &Held,
     buffers: &[Handle],
     limit: u32,
-) -> Result<Items<Trim>, NoMemory>
+) -> Result<Few<Trim>, NoMemory>
     ensures { IfOk result (λ trims. trims ≡ flat_map (stored_trim limit held.now)
         (numbers buffers.now)) }
 {
@@ -58,7 +59,7 @@ pub(crate) fn all_trims(
     for h in buffers {
         push_trim(&mut trims, *h, count(held, *h).saturating_sub(limit))?;
     }
-    Ok(trims)
+    Ok(Few::many(trims))
 }
 
 /// Makes room for so many lines in each of these buffers. Where memory is refused some may have it.

@@ -8,7 +8,7 @@ ghost use Rattle.wc_world.specs.Told.{told_at, told_with};
 use crate::near::{next_of, prev_of};
 use std::alloc::Global;
 use wc_buffers::{BufferRefused, Buffers};
-use wc_model::{EventKind, Notice, Trim};
+use wc_model::{EventKind, Few, Notice, Trim};
 use wc_text::{Handle, Items, NoMemory, Text};
 
 /// The full name of a buffer in memory of its own; empty where the buffer is not there.
@@ -27,9 +27,9 @@ fn noticed_all(
     kind: EventKind,
     h: Handle,
     full_name: Text,
-    lines: Items<Handle>,
+    lines: Few<Handle>,
     flips: Items<Handle>,
-    trims: Items<Trim>,
+    trims: Few<Trim>,
 ) -> Notice
     ensures { result ≡ told_with kind h buffers.now full_name lines flips trims }
 {
@@ -56,12 +56,12 @@ pub(crate) fn noticed(
     kind: EventKind,
     h: Handle,
     full_name: Text,
-    lines: Items<Handle>,
+    lines: Few<Handle>,
     flips: Items<Handle>,
 ) -> Notice
     ensures { result ≡ told_at kind h buffers.now full_name lines flips }
 {
-    let none = Items::new(alloc);
+    let none = Few::none(alloc);
     noticed_all(buffers, kind, h, full_name, lines, flips, none)
 }
 
@@ -72,12 +72,12 @@ pub(crate) fn noticed_trims(
     kind: EventKind,
     h: Handle,
     full_name: Text,
-    trims: Items<Trim>,
+    trims: Few<Trim>,
 ) -> Notice
     ensures { result ≡ told_with kind h buffers.now full_name [] [] trims }
 {
     let none = Items::new(alloc);
-    noticed_all(buffers, kind, h, full_name, Items::new(alloc), none, trims)
+    noticed_all(buffers, kind, h, full_name, Few::none(alloc), none, trims)
 }
 
 /// What is noticed of a buffer as it is, without lines. It takes no memory.
@@ -91,7 +91,7 @@ pub(crate) fn told(
     ensures { result ≡ told_at kind h buffers.now full_name [] [] }
 {
     let none = Items::new(alloc);
-    noticed(buffers, alloc, kind, h, full_name, Items::new(alloc), none)
+    noticed(buffers, alloc, kind, h, full_name, Few::none(alloc), none)
 }
 
 /// Whether a buffer is there.
@@ -114,23 +114,14 @@ pub(crate) fn no_buffer(buffers: &Buffers, h: Handle) -> Option<BufferRefused>
     Some(BufferRefused::NoBuffer { handle: h })
 }
 
-/// A list of one handle.
-pub(crate) fn one(alloc: Global, handle: Handle) -> Result<Items<Handle>, NoMemory>
-    ensures { IfOk result (λ items. items ≡ handle ∷ []) }
-{
-    let mut items = Items::new(alloc);
-    items.push(handle)?;
-    Ok(items)
-}
-
 /// What is noticed of a line that was printed. It takes no memory.
 pub(crate) fn told_line(
     buffers: &Buffers,
     alloc: Global,
     h: Handle,
     full_name: Text,
-    lines: Items<Handle>,
-    trims: Items<Trim>,
+    lines: Few<Handle>,
+    trims: Few<Trim>,
 ) -> Notice
     ensures { result ≡ told_with kinds.LineAdded h buffers.now full_name lines [] trims }
 {

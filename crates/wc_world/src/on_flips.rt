@@ -10,7 +10,7 @@ use crate::noticed::{name_of, noticed};
 use crate::world::World;
 use std::alloc::Global;
 use wc_lines::Flags;
-use wc_model::{ChangeRefused, EventKind, Flip, Notice};
+use wc_model::{ChangeRefused, EventKind, Few, Flip, Notice};
 use wc_text::{Handle, Items, Text};
 
 /// What flips come to, found before anything is written.
@@ -82,7 +82,7 @@ impl World {
             EventKind::LineDataChanged,
             nowhere,
             full_name,
-            Items::new(alloc),
+            Few::none(alloc),
             plan.into_differing(),
         ))
     }
@@ -117,7 +117,7 @@ impl World {
             EventKind::Renamed,
             h,
             name,
-            Items::new(alloc),
+            Few::none(alloc),
             plan.into_differing(),
         ))
     }

@@ -14,7 +14,7 @@ use crate::noticed::{name_of, noticed_trims};
 use crate::world::World;
 use std::alloc::Global;
 use wc_buffers::Buffers;
-use wc_model::{ChangeRefused, EventKind, Notice, Trim};
+use wc_model::{ChangeRefused, EventKind, Few, Notice, Trim};
 use wc_text::{Handle, Items, NoMemory, Text};
 
 /// What another limit comes to, found before anything is written.
@@ -25,7 +25,7 @@ struct LimitPlan {
     /// What is told of no buffer.
     full_name: Text,
     /// The lines that go.
-    trims: Items<Trim>,
+    trims: Few<Trim>,
 }
 
 /// What is noticed of another limit. It takes no memory.

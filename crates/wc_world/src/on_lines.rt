@@ -12,21 +12,21 @@ ghost use Rattle.wc_world.specs.Told.{told_with};
 use crate::cut::line_of;
 use crate::held::{self, Held};
 use crate::limits::{count, one_trim};
-use crate::noticed::{name_of, no_buffer, one, told, told_line};
+use crate::noticed::{name_of, no_buffer, told, told_line};
 use crate::world::{LAST_HANDLE, World};
 use std::alloc::Global;
 use wc_buffers::Buffers;
 use wc_lines::PackedLine;
-use wc_model::{ChangeRefused, EventKind, LineSpec, Notice, Trim};
-use wc_text::{Handle, Items, NoMemory, Text};
+use wc_model::{ChangeRefused, EventKind, Few, LineSpec, Notice, Trim};
+use wc_text::{Handle, NoMemory, Text};
 
 /// What is told of a line that is printed, beside the buffer: its name, the line, and the oldest line
 /// that goes for it.
 #[derive(Drop)]
 struct LineNews {
     full_name: Text,
-    lines: Items<Handle>,
-    trims: Items<Trim>,
+    lines: Few<Handle>,
+    trims: Few<Trim>,
 }
 
 /// What is told of a line with the next handle, where a buffer holds so many lines at most.
@@ -44,8 +44,8 @@ fn news_of(
         ≡ trim_of h (length (stored_lines held.now h.0) + 1 - limit)) }
 {
     let full_name = name_of(buffers, alloc, h)?;
-    let lines = one(alloc, Handle(next))?;
-    let trims = one_trim(alloc, h, (count(held, h) + 1).saturating_sub(limit))?;
+    let lines = Few::one(Handle(next));
+    let trims = one_trim(alloc, h, (count(held, h) + 1).saturating_sub(limit));
     Ok(LineNews {
         full_name,
         lines,

@@ -31,4 +31,4 @@ returns c =
     let ordered = ap numbers c.as_slice.ensures ∙ plan.ordered ∙ sym (ap (λ (w : World). order w.groups) c.self.view_is) in
     flips_done c.self.inside.buffers c.self.inside.held c.set_flags.new.held (rows_map c.self.inside.nicks) c.self.inside.limit c.self.inside.next c.self.invariant.0 c.args.flips
     (all_set c.self.inside.buffers c.self.inside.held c.set_flags.new.held c.self.inside.limit c.self.inside.next c.args.flips (flag_at c.in_ok-plan.plan.flags) _ c.self.invariant.0 ordered plan.last c.set_flags.ensures)
-    c.args.self.now c.args.h c.self.view_is plan.all_held [] c.into_differing.result c.noticed.result refl (c.into_differing.ensures ∙ plan.found) c.in_ok-full_name.full_name c.in_ok-full_name.ensures (c.noticed.ensures ∙ ap (λ lines. told_at kinds.LineDataChanged (record { 0 = 0 }) c.self.inside.buffers c.in_ok-full_name.full_name lines c.into_differing.result) c.new.ensures)
+    c.args.self.now c.args.h c.self.view_is plan.all_held [] c.into_differing.result c.noticed.result refl (c.into_differing.ensures ∙ plan.found) c.in_ok-full_name.full_name c.in_ok-full_name.ensures (c.noticed.ensures ∙ ap (λ lines. told_at kinds.LineDataChanged (record { 0 = 0 }) c.self.inside.buffers c.in_ok-full_name.full_name lines c.into_differing.result) c.none.ensures)

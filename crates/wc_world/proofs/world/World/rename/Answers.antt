@@ -45,4 +45,4 @@ returns c =
     rename_done c.self.inside.buffers c.self.inside.held c.set_flags.new.held (rows_map c.self.inside.nicks) c.self.inside.limit c.self.inside.next c.self.invariant.0 c.args.flips
     (all_set c.self.inside.buffers c.self.inside.held c.set_flags.new.held c.self.inside.limit c.self.inside.next c.args.flips (flag_at c.in_ok-plan.plan.flags) _ c.self.invariant.0 ordered plan.last c.set_flags.ensures)
     c.args.self.now c.args.h c.self.view_is plan.all_held [] c.into_differing.result c.noticed.result refl (c.into_differing.ensures ∙ plan.found)
-    c.rename.new.self c.args.name c.in_default-rename.ensures.accepted c.in_default-rename.ensures.after (c.noticed.ensures ∙ ap (λ lines. told_at kinds.Renamed c.args.h c.rename.new.self c.args.name lines c.into_differing.result) c.new.ensures)
+    c.rename.new.self c.args.name c.in_default-rename.ensures.accepted c.in_default-rename.ensures.after (c.noticed.ensures ∙ ap (λ lines. told_at kinds.Renamed c.args.h c.rename.new.self c.args.name lines c.into_differing.result) c.none.ensures)
