@@ -1,5 +1,6 @@
 pub mod ConnectionLemmas
 pub mod EventLemmas
+pub mod FlagLemmas
 pub mod HeardCounts
 pub mod HookedChanges
 pub mod HookedLemmas

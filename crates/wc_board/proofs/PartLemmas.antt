@@ -1,14 +1,15 @@
 -- The parts of a notice, told one after another, and what they come to.
 use Rattle.std.proofs.Common.{◌≡◌, ℕ, Bool, true, false, cond, List, [], ◌∷◌, ◌++◌, Result, Ok, Err, IfOk, append_assoc, append-nil, refl, ap, sym, subst, ◌∙◌}
-use Rattle.std.specs.Prelude.{map, fold}
+use Rattle.std.specs.Prelude.{map, filter, fold}
 use Rattle.std.specs.List.{flat_map}
 use Rattle.std.proofs.lemmas.List.Concat.{flat_map-append}
 use Rattle.wc_text.specs.declared.names.Handle.{Handle}
 use Rattle.wc_model.specs.declared.notice.EventKind.{EventKind}
-use Rattle.wc_model.specs.declared.notice.EventKind.TheVariants.{LinesTrimmed}
+use Rattle.wc_model.specs.declared.notice.EventKind.TheVariants.{LineDataChanged, LinesTrimmed}
 use Rattle.wc_model.specs.declared.notice.Notice.{Notice}
 use Rattle.wc_model.specs.declared.notice.Trim.{Trim}
-use Rattle.wc_model.specs.Parts.{trim_part, parts_of}
+use Rattle.wc_model.specs.Parts.{has_flips, flag_part, flag_parts, trim_part, parts_of}
+use Rattle.wc_model.specs.Order.{order}
 use Rattle.wc_model.specs.World.{World}
 use Rattle.wc_session.specs.declared.client.Client.{Client}
 use Rattle.wc_session.specs.Event.{Spelled, IsEventOf, part_told, parts_told, notice_told}
@@ -72,10 +73,27 @@ pub parts_are : (w : World) (parts : List Notice) (connection : Connection) → 
 parts_are w [] connection = parts_none connection
 parts_are w (part ∷ parts) connection = parts_more w part parts connection (parts_are w parts)
 
+-- parts after others
+after_join : (parts others : List Notice) (client : Client) → after_parts (parts ++ others) client ≡ after_parts others (after_parts parts client)
+after_join [] others client = refl
+after_join (part ∷ parts) others client = after_join parts others (after_event part.kind part.buffer.0 client)
+
 -- the lines that went change nothing that is known of a client
-pub trims_stay : (trims : List Trim) (client : Client) → after_parts (map trim_part trims) client ≡ client
+trims_stay : (trims : List Trim) (client : Client) → after_parts (map trim_part trims) client ≡ client
 trims_stay [] client = refl
 trims_stay (trim ∷ trims) client = trims_stay trims client
+
+-- nor do those whose flags differ
+flags_stay : (w : World) (flips : List Handle) (client : Client) → after_parts (flag_parts w flips) client ≡ client
+flags_stay w [] client = refl
+flags_stay w (flip ∷ flips) client = of (filter (has_flips w (flip ∷ flips)) (order w.groups)) client where
+  of : (buffers : List ℕ) (client : Client) → after_parts (map (flag_part (flip ∷ flips)) buffers) client ≡ client
+  of [] client = refl
+  of (buffer ∷ buffers) client = of buffers client
+
+-- what is known of a client after a notice is known after its own event
+own_stays : (w : World) (n : Notice) (client : Client) → after_parts (flag_parts w n.flips ++ map trim_part n.trims) client ≡ client
+own_stays w n client = after_join (flag_parts w n.flips) (map trim_part n.trims) client ∙ trims_stay n.trims (after_parts (flag_parts w n.flips) client) ∙ flags_stay w n.flips client
 
 -- an open connection that was told a notice
 abbrev pub told_open : World → Notice → Connection → Connection
@@ -91,7 +109,7 @@ told_open w n connection = record connection {
 pub told_is : (w : World) (n : Notice) (connection : Connection) → told_connection w n connection ≡ cond (is_open connection) (told_open w n connection) connection
 told_is w n connection =
     parts_are w (parts_of w n) connection
-    ∙ ap (λ client. cond (is_open connection) (with_sent connection client (spelt (notice_told w n connection.session.client))) connection) (trims_stay n.trims (after_event n.kind n.buffer.0 connection.session.client))
+    ∙ ap (λ client. cond (is_open connection) (with_sent connection client (spelt (notice_told w n connection.session.client))) connection) (own_stays w n (after_event n.kind n.buffer.0 connection.session.client))
 
 -- ---- all connections
 
@@ -120,16 +138,23 @@ parts_kept w (part ∷ parts) old new served = ConnectionsKept-trans old served.
 pub notice_kept : (w : World) (n : Notice) (old new : List Connection) → NoticeServed w n old new → ConnectionsKept old new
 notice_kept w n old new served = parts_kept w (parts_of w n) old new served
 
--- a client takes note of lines that went by their message alone
+as_before : (b : Bool) (connection : Connection) → cond b connection connection ≡ connection
+as_before true connection = refl
+as_before false connection = refl
+
+-- a client takes note of lines that went, and of those whose flags differ, by their message alone
 trim_noted : (buffer : ℕ) (connection : Connection) → noted_connection LinesTrimmed buffer connection ≡ connection
-trim_noted buffer connection = by (is_open connection) where
-  by : (b : Bool) → cond b connection connection ≡ connection
-  by true = refl
-  by false = refl
+trim_noted buffer connection = as_before (is_open connection) connection
+
+flag_noted : (buffer : ℕ) (connection : Connection) → noted_connection LineDataChanged buffer connection ≡ connection
+flag_noted buffer connection = as_before (is_open connection) connection
 
 -- where none hears of them, all are as after it
 pub trim_deaf : (w : World) (trim : Trim) (connections : List Connection) → is_heard connections (trim_part trim) ≡ false → connections ≡ map (part_connection w (trim_part trim)) connections
 trim_deaf w trim connections deaf = sym (map_none (noted_connection LinesTrimmed trim.buffer.0) (trim_noted trim.buffer.0) connections) ∙ all_deaf w (trim_part trim) connections deaf
+
+pub flag_deaf : (w : World) (flips : List Handle) (buffer : ℕ) (connections : List Connection) → is_heard connections (flag_part flips buffer) ≡ false → connections ≡ map (part_connection w (flag_part flips buffer)) connections
+flag_deaf w flips buffer connections deaf = sym (map_none (noted_connection LineDataChanged buffer) (flag_noted buffer) connections) ∙ all_deaf w (flag_part flips buffer) connections deaf
 
 -- where no memory is found for a part, who it is for leaves
 pub part_starved : (w : World) (part : Notice) (kind : EventKind) (buffer : Handle) (old new : List Connection) → part.kind ≡ kind → part.buffer ≡ buffer

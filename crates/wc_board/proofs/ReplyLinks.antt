@@ -6,7 +6,7 @@ use Rattle.wc_text.specs.declared.names.Cause.TheVariants as cause
 use Rattle.wc_text.specs.declared.names.Handle.{Handle}
 use Rattle.wc_buffers.specs.Calls.{EntryGroups}
 use Rattle.wc_model.specs.World.{World}
-use Rattle.wc_options.specs.Options.{OptionsValue}
+use Rattle.wc_session.specs.RequestContext.{Context}
 use Rattle.wc_objects.specs.declared.object.WireMessage.{WireMessage}
 use Rattle.wc_relaycmd.specs.declared.request.Command.{Command}
 use Rattle.wc_relaycmd.specs.declared.request.Command.TheVariants as ask
@@ -77,35 +77,35 @@ desynchronized_link : (groups : EntryGroups) (client : Client) (buffers : List (
 unfolding desynchronized
 desynchronized_link groups client buffers options = refl
 
-served_keeps : (world : World) (options : OptionsValue) (client : Client) (id : List ℕ) (command : Command) → Keeps client (served world options client id command)
+served_keeps : (world : World) (context : Context) (client : Client) (id : List ℕ) (command : Command) → Keeps client (served world context client id command)
 unfolding served
-served_keeps world options client id (ask.Handshake pairs) = handshake_keeps (masks_of options) client id pairs
-served_keeps world options client id (ask.Init pairs) = init_keeps (masks_of options) (password_of options) client pairs
-served_keeps world options client id (ask.Hdata path keys) = replies_keep client _
-served_keeps world options client id (ask.Info name) = replies_keep client _
-served_keeps world options client id (ask.Infolist name argument) = replies_keep client _
-served_keeps world options client id (ask.Nicklist buffer) = replies_keep client _
-served_keeps world options client id (ask.Input buffer text) = input_keeps world.groups client buffer text
-served_keeps world options client id (ask.Completion buffer position text) = replies_keep client _
-served_keeps world options client id (ask.Sync buffers asked) = synchronized_link world.groups client buffers asked
-served_keeps world options client id (ask.Desync buffers asked) = desynchronized_link world.groups client buffers asked
-served_keeps world options client id ask.Test = replies_keep client _
-served_keeps world options client id (ask.Ping text) = replies_keep client _
-served_keeps world options client id ask.Quit = refl
+served_keeps world context client id (ask.Handshake pairs) = handshake_keeps (masks_of context.options) client id pairs
+served_keeps world context client id (ask.Init pairs) = init_keeps (masks_of context.options) (password_of context.options) client pairs
+served_keeps world context client id (ask.Hdata path keys) = replies_keep client _
+served_keeps world context client id (ask.Info name) = replies_keep client _
+served_keeps world context client id (ask.Infolist name argument) = replies_keep client _
+served_keeps world context client id (ask.Nicklist buffer) = replies_keep client _
+served_keeps world context client id (ask.Input buffer text) = input_keeps world.groups client buffer text
+served_keeps world context client id (ask.Completion buffer position text) = replies_keep client _
+served_keeps world context client id (ask.Sync buffers asked) = synchronized_link world.groups client buffers asked
+served_keeps world context client id (ask.Desync buffers asked) = desynchronized_link world.groups client buffers asked
+served_keeps world context client id ask.Test = replies_keep client _
+served_keeps world context client id (ask.Ping text) = replies_keep client _
+served_keeps world context client id ask.Quit = refl
 
-reply_keeps : (world : World) (options : OptionsValue) (client : Client) (request : Request) → Keeps client (reply_of world options client request)
+reply_keeps : (world : World) (context : Context) (client : Client) (request : Request) → Keeps client (reply_of world context client request)
 unfolding reply_of
-reply_keeps world options client request =
-    keeps_if client (client.logged_in || is_open request.command) (served world options client request.id request.command) (leaves client cause.LoginFailed)
-    (served_keeps world options client request.id request.command) refl
+reply_keeps world context client request =
+    keeps_if client (client.logged_in || is_open request.command) (served world context client request.id request.command) (leaves client cause.LoginFailed)
+    (served_keeps world context client request.id request.command) refl
 
 -- the session of a client before and after its request
-pub answered_link : (world : World) (options : OptionsValue) (request : Request) (old new : Known) (result : Outcome) → OnServed result (AnswersRequest old new result (reply_of world options old.client request)) → OnNoMemory result (new ≡ old) → new.client.link ≡ old.client.link
-answered_link world options request old new result answered refused = by result answered refused where
-  done : (r : Outcome) → AnswersRequest old new r (reply_of world options old.client request) → new.client.link ≡ old.client.link
-  done r is = ap (λ (client : Client). client.link) is.client ∙ reply_keeps world options old.client request
+pub answered_link : (world : World) (context : Context) (request : Request) (old new : Known) (result : Outcome) → OnServed result (AnswersRequest old new result (reply_of world context old.client request)) → OnNoMemory result (new ≡ old) → new.client.link ≡ old.client.link
+answered_link world context request old new result answered refused = by result answered refused where
+  done : (r : Outcome) → AnswersRequest old new r (reply_of world context old.client request) → new.client.link ≡ old.client.link
+  done r is = ap (λ (client : Client). client.link) is.client ∙ reply_keeps world context old.client request
 
-  by : (r : Outcome) → OnServed r (AnswersRequest old new r (reply_of world options old.client request)) → OnNoMemory r (new ≡ old) → new.client.link ≡ old.client.link
+  by : (r : Outcome) → OnServed r (AnswersRequest old new r (reply_of world context old.client request)) → OnNoMemory r (new ≡ old) → new.client.link ≡ old.client.link
   by outcome.Replied answered same = done outcome.Replied answered
   by outcome.Silent answered same = done outcome.Silent answered
   by (outcome.Input buffer text) answered same = done (outcome.Input buffer text) answered

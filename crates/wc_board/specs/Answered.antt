@@ -4,7 +4,7 @@ use Rattle.std.specs.Prelude.{[], map, Result, Ok, Err}
 use Rattle.wc_text.specs.declared.names.Handle.{Handle}
 use Rattle.wc_nicklist.specs.declared.item.Row.{Row}
 use Rattle.wc_nickdiff.specs.Held.{touches_of}
-use Rattle.wc_options.specs.Options.{OptionsValue}
+use Rattle.wc_session.specs.RequestContext.{Context}
 use Rattle.wc_outside.specs.Keyed.{at_key, put_at}
 use Rattle.wc_model.specs.declared.notice.Notice.{Notice}
 use Rattle.wc_model.specs.declared.refused.ChangeRefused.{ChangeRefused}
@@ -68,12 +68,12 @@ PushedIf true old new = IsPushed old new
 PushedIf false old new = new ≡ old
 
 -- the board before and after the request of an open client
-pub record IsAnswered (link : ℕ) (options : OptionsValue) (request : Request) (result : Outcome)
+pub record IsAnswered (link : ℕ) (context : Context) (request : Request) (result : Outcome)
     (old new : BoardView) (connection : Connection) : Type 0 where
   -- the session after it
   pub session : Known
   pub answered : OnServed result (AnswersRequest connection.session session result
-      (reply_of old.world options connection.session.client request))
+      (reply_of old.world context connection.session.client request))
   pub refused : OnNoMemory result (session ≡ connection.session)
   pub put : new ≡ record old {
     connections = put_at connection_link link
@@ -85,24 +85,24 @@ pub record NotAnswered (result : Outcome) (old new : BoardView) : Type 0 where
   pub starves : result ≡ outcome.NoMemory
   pub stays : new ≡ old
 
-abbrev pub AnsweredIf : Bool → ℕ → OptionsValue → Request → Outcome → BoardView → BoardView →
+abbrev pub AnsweredIf : Bool → ℕ → Context → Request → Outcome → BoardView → BoardView →
     Connection → Type 0
-AnsweredIf true link options request result old new connection = IsAnswered link options request
+AnsweredIf true link context request result old new connection = IsAnswered link context request
     result old new connection
-AnsweredIf false link options request result old new connection = NotAnswered result old new
+AnsweredIf false link context request result old new connection = NotAnswered result old new
 
-abbrev pub AnsweredAt : ℕ → OptionsValue → Request → Outcome → BoardView → BoardView →
+abbrev pub AnsweredAt : ℕ → Context → Request → Outcome → BoardView → BoardView →
     Option Connection → Type 0
-AnsweredAt link options request result old new None = NotAnswered result old new
-AnsweredAt link options request result old new (Some connection) =
-    AnsweredIf (is_open connection) link options request result old new connection
+AnsweredAt link context request result old new None = NotAnswered result old new
+AnsweredAt link context request result old new (Some connection) =
+    AnsweredIf (is_open connection) link context request result old new connection
 
 -- A request is answered after the pushes that stand before it. Who began to leave in these is not
 -- answered.
-pub record AnswersAfterPushes (link : ℕ) (options : OptionsValue) (request : Request)
+pub record AnswersAfterPushes (link : ℕ) (context : Context) (request : Request)
     (result : Outcome) (old new : BoardView) : Type 0 where
   pub between : BoardView
   pub pushed : PushedIf (pushes_before (at_key connection_link link old.connections)
       request.command) old between
-  pub answered : AnsweredAt link options request result between new
+  pub answered : AnsweredAt link context request result between new
       (at_key connection_link link between.connections)

@@ -1,12 +1,13 @@
 -- What becomes of the clients at an event, also where memory is refused.
-use Rattle.std.specs.Prelude.{◌≡◌, ℕ, Bool, false, ◌&&◌, ◌⊎◌, if◌then◌else◌, List, [], ◌∷◌, ◌++◌}
-use Rattle.std.specs.Prelude.{Option, Some, fold, filter, length}
+use Rattle.std.specs.Prelude.{◌≡◌, ℕ, ◌+◌, ◌≤◌, Bool, true, false, ◌&&◌, ◌⊎◌, if◌then◌else◌}
+use Rattle.std.specs.Prelude.{List, [], ◌∷◌, ◌++◌, Option, Some, fold, filter, length, map}
 use Rattle.std.specs.List.{flat_map, list_any}
 use Rattle.wc_text.specs.declared.names.Cause.{Cause}
 use Rattle.wc_text.specs.declared.names.Cause.TheVariants.{NoMemory}
+use Rattle.wc_text.specs.declared.names.Handle.{Handle}
 use Rattle.wc_model.specs.declared.notice.EventKind.{EventKind}
 use Rattle.wc_model.specs.declared.notice.Notice.{Notice}
-use Rattle.wc_model.specs.Parts.{parts_of}
+use Rattle.wc_model.specs.Parts.{has_flips, flag_part, parts_of}
 use Rattle.wc_model.specs.World.{World}
 use Rattle.wc_session.specs.Event.{Spelled, with_event, part_told}
 use Rattle.wc_session.specs.Sending.{spelling}
@@ -96,6 +97,20 @@ is_heard connections part =
 
 abbrev pub heard_number : List Connection → List Notice → ℕ
 heard_number connections parts = length (filter (λ part. is_heard connections part) parts)
+
+-- Some parts were told, each spelled once at most, where as many were spelled before and after. Unless
+-- memory was refused for one, each client found memory for all of them.
+pub record PartsTold (world : World) (parts : List Notice) (whole : Bool)
+    (old new : List Connection) (before after : ℕ) : Type 0 where
+  pub told : whole ≡ true → new
+      ≡ map (λ connection. fold (λ connection part. part_connection world part connection) connection parts) old
+  pub each : PartsServed world parts old new
+  pub least : before ≤ after
+  pub once : after ≤ before + heard_number old parts
+
+-- of these buffers alone, what is told of lines whose flags differ
+abbrev pub flags_of : World → List Handle → List ℕ → List Notice
+flags_of world flips buffers = map (flag_part flips) (filter (has_flips world flips) buffers)
 
 -- a client that is leaving is left alone, and another one leaves for want of memory at most
 pub record ConnectionKept (old new : Connection) : Type 0 where

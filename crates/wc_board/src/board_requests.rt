@@ -5,13 +5,13 @@ ghost use Rattle.wc_outside.specs.Keyed.{at_key};
 ghost use Rattle.wc_relaycmd.specs.Utf8.{RequestIsUtf8};
 ghost use Rattle.wc_board.specs.Answered.{is_nicklist, pushes_before, PushedIf, AnsweredAt};
 ghost use Rattle.wc_board.specs.Answered.{AnswersAfterPushes};
+ghost use Rattle.wc_session.specs.RequestContext.{context_seen};
 ghost use Rattle.wc_board.specs.Connections.{connection_link, is_open_at};
 
 use crate::board::Board;
 use crate::connection::connection_place;
-use wc_options::Options;
 use wc_relaycmd::{Command, Request};
-use wc_session::Outcome;
+use wc_session::{Outcome, RequestContext};
 use wc_text::LinkId;
 
 /// Whether nicklists are asked for.
@@ -22,16 +22,21 @@ fn is_nicklist(command: &Command) -> bool
 }
 
 impl Board {
-    /// Serves a request of a client that is open, where these are the options. A nicklist is shown
-    /// as it was told, so what is to be pushed is pushed before. NoMemory stands for a client that
-    /// finds no memory in these pushes too, and that is leaving then.
-    pub fn request(&mut self, options: &Options, link: LinkId, request: Request) -> Outcome
+    /// Serves a request of a client that is open, from the world and what stands beside it. A
+    /// nicklist is shown as it was told, so what is to be pushed is pushed before. NoMemory stands for
+    /// a client that finds no memory in these pushes too, and that is leaving then.
+    pub fn request(
+        &mut self,
+        context: RequestContext<'_>,
+        link: LinkId,
+        request: Request,
+    ) -> Outcome
         requires opened { is_open_at (at_key connection_link link.0 self.old.connections) ≡ true }
         requires text { RequestIsUtf8 request }
-        ensures { AnswersAfterPushes link.0 options.now request result self.old self.new }
+        ensures { AnswersAfterPushes link.0 (context_seen context.entry) request result self.old self.new }
     {
         self.push_before(link, &request.command);
-        self.answer(options, link, request)
+        self.answer(context, link, request)
     }
 
     /// Makes the pushes that stand before the answer to a command of a client.
@@ -58,12 +63,12 @@ impl Board {
     }
 
     /// Serves a request of a client, unless it is leaving.
-    fn answer(&mut self, options: &Options, link: LinkId, request: Request) -> Outcome
+    fn answer(&mut self, context: RequestContext<'_>, link: LinkId, request: Request) -> Outcome
         requires { RequestIsUtf8 request }
-        ensures { AnsweredAt link.0 options.now request result self.old self.new
+        ensures { AnsweredAt link.0 (context_seen context.entry) request result self.old self.new
             (at_key connection_link link.0 self.old.connections) }
     {
         self.clients
-            .answer(self.alloc, &self.world, options, link, request)
+            .answer(self.alloc, &self.world, context, link, request)
     }
 }

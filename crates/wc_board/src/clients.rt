@@ -7,6 +7,7 @@ ghost use Rattle.wc_hooks.specs.Table.{with_row};
 ghost use Rattle.wc_nickdiff.specs.Held.{OfBuffer};
 ghost use Rattle.wc_outside.specs.Keyed.{at_key, without};
 ghost use Rattle.wc_relaycmd.specs.Utf8.{RequestIsUtf8};
+ghost use Rattle.wc_session.specs.RequestContext.{context_seen};
 ghost use Rattle.wc_board.specs.Answered.{AnsweredAt};
 ghost use Rattle.wc_board.specs.Connections.{connection_link, is_open_at, unsent_at, gone_at};
 ghost use Rattle.wc_board.specs.Connections.{left_at};
@@ -21,9 +22,8 @@ use std::marker::{Brand, Model};
 use std::sync::ledger::Blank;
 use wc_hooks::{HookId, HookKind, HookTable, Owner};
 use wc_model::EventKind;
-use wc_options::Options;
 use wc_relaycmd::Request;
-use wc_session::{Outcome, Session};
+use wc_session::{Outcome, RequestContext, Session};
 use wc_text::{Cause, Handle, LinkId, NoMemory, Text};
 use wc_world::World;
 
@@ -181,12 +181,12 @@ impl Clients {
         &mut self,
         alloc: Global,
         world: &World,
-        options: &Options,
+        context: RequestContext<'_>,
         link: LinkId,
         request: Request,
     ) -> Outcome
         requires { RequestIsUtf8 request }
-        ensures { (pending : List OfBuffer) → AnsweredAt link.0 options.now request result
+        ensures { (pending : List OfBuffer) → AnsweredAt link.0 (context_seen context.entry) request result
             (record { world = world.now; pending = pending; connections = self.old })
             (record { world = world.now; pending = pending; connections = self.new })
             (at_key connection_link link.0 self.old) }
@@ -201,7 +201,7 @@ impl Clients {
         }
         self.connections[place]
             .session
-            .request(alloc, world, options, request)
+            .request(alloc, world, context, request)
     }
 
     /// Has each client that is open take note of an event that is for none.

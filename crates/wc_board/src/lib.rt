@@ -6,10 +6,12 @@ mod board_clients;
 mod board_requests;
 mod clients;
 mod connection;
+mod flags;
 mod laws;
 mod nick_change;
 mod pushes;
 mod relay_pass;
+mod serving;
 mod spellings;
 mod telling;
 

@@ -3,7 +3,7 @@
 ghost use Rattle.std.specs.Prelude.{◌≡◌, ◌+◌, ◌<◌, false, List, IfOk, IfSome, MatchOption};
 ghost use Rattle.std.specs.Str.{IsUtf8};
 ghost use Rattle.wc_buffers.specs.Calls.{is_there};
-ghost use Rattle.wc_model.specs.Parts.{trim_part};
+ghost use Rattle.wc_model.specs.Parts.{flag_part, trim_part};
 ghost use Rattle.wc_model.specs.World.{World as WorldValue, rows_at, root_at};
 ghost use Rattle.wc_nickdiff.specs.Held.{before_at, touches_of};
 ghost use Rattle.wc_nickdiff.specs.NickPush.{nick_push};
@@ -14,6 +14,7 @@ ghost use Rattle.wc_session.specs.Event.{IsEventOf, IsPushOf, IsPushKind};
 use std::alloc::Global;
 use std::marker::Model;
 use std::sync::ledger::{Blank, Book, Ledger, Share};
+use wc_events::FlipLookup;
 use wc_model::{Notice, Trim};
 use wc_nickdiff::Pending;
 use wc_session::BufferEvent;
@@ -62,6 +63,22 @@ impl<L: Ledger> Spellings<L> {
     {
         self.book.add(&mut self.share, 1);
         BufferEvent::of(alloc, world, notice)
+    }
+
+    /// Spells the event of the lines of a buffer whose flags differ, in the world after the change.
+    pub(crate) fn of_flags(
+        &mut self,
+        alloc: Global,
+        world: &World,
+        buffer: Handle,
+        flips: &FlipLookup<'_>,
+    ) -> Result<BufferEvent, NoMemory>
+        ensures count { self.new ≡ self.old + 1 }
+        ensures event { IfOk result (λ event.
+            IsEventOf event world.now (flag_part flips.now buffer.0)) }
+    {
+        self.book.add(&mut self.share, 1);
+        BufferEvent::of_flags(alloc, world, buffer, flips)
     }
 
     /// Spells the event of the oldest lines that a buffer lost.

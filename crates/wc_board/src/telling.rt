@@ -1,29 +1,28 @@
 //! What was noticed of a change, told in its parts.
 
-ghost use Rattle.std.specs.Prelude.{◌≡◌, ◌+◌, ◌≤◌, true, map, fold, IfOk, [], ◌∷◌};
+ghost use Rattle.std.specs.Prelude.{◌≡◌, ◌+◌, ◌≤◌, true, map, fold, [], ◌∷◌};
 ghost use Rattle.std.specs.Str.{IsUtf8};
-ghost use Rattle.wc_model.specs.declared.notice.Notice.{Notice as NoticeValue};
 ghost use Rattle.wc_model.specs.Parts.{parts_of, trim_part};
 ghost use Rattle.wc_model.specs.World.{World as WorldValue};
-ghost use Rattle.wc_session.specs.Event.{IsEventOf};
 ghost use Rattle.wc_board.specs.Served.{heard_number, part_connection, told_connection};
 ghost use Rattle.wc_board.specs.Served.{ConnectionsServed, PartsServed, NoticeServed};
 
 use crate::clients::Clients;
-use crate::connection::{Service, some_listens};
+use crate::connection::some_listens;
+use crate::flags::tell_flags;
+use crate::serving::serve_spelled;
 use crate::spellings::Spellings;
 use std::alloc::Global;
 use std::sync::ledger::Ledger;
 use wc_model::{EventKind, Notice, Trim};
-use wc_session::BufferEvent;
-use wc_text::{Handle, NoMemory};
 use wc_world::World;
 
 /// Tells what was noticed of a change to each client that is open and asked for it, in the world
-/// after the change: its own event, and then of each buffer that lost its oldest lines how many went.
-/// Each of these is spelled once, where it is for some client, and told in a pass; where it is for
-/// none nothing is spelled and no pass is opened. False where memory is refused for one of them: who
-/// is not told leaves, and the others are told what comes after it.
+/// after the change: its own event, then of each buffer which of its lines have another flag, and then
+/// of each buffer that lost its oldest lines how many went. Each of these is spelled once, where it is
+/// for some client, and told in a pass; where it is for none nothing is spelled and no pass is opened.
+/// False where memory is refused for one of them: who is not told leaves, and the others are told what
+/// comes after it.
 pub fn tell_notice<L: Ledger>(
     clients: &mut Clients,
     alloc: Global,
@@ -41,8 +40,9 @@ pub fn tell_notice<L: Ledger>(
         spellings.new ≡ spellings.old }
 {
     let own_told = tell_own(clients, alloc, world, notice, spellings);
+    let flags_told = tell_flags(clients, alloc, world, &notice.flips, spellings);
     let trims_told = tell_trims(clients, alloc, notice.trims.as_slice(), spellings);
-    own_told & trims_told
+    own_told & flags_told & trims_told
 }
 
 /// Tells the event of a change itself. False where memory is refused.
@@ -116,30 +116,4 @@ fn tell_trim<L: Ledger>(
     }
     let spelled = spellings.of_trim(alloc, trim);
     serve_spelled(clients, alloc, kind, trim.buffer, spelled)
-}
-
-/// Tells an event in a pass, or where it found no memory has each client leave that it was for. False
-/// where one leaves.
-fn serve_spelled(
-    clients: &mut Clients,
-    alloc: Global,
-    kind: EventKind,
-    buffer: Handle,
-    spelled: Result<BufferEvent, NoMemory>,
-) -> bool
-    ensures told { result ≡ true → (world : WorldValue) (part : NoticeValue) →
-        IfOk spelled (λ event. IsEventOf event world part) →
-        clients.new ≡ map (part_connection world part) clients.old }
-    ensures each { (world : WorldValue) (part : NoticeValue) → part.kind ≡ kind →
-        part.buffer ≡ buffer → IfOk spelled (λ event. IsEventOf event world part) →
-        ConnectionsServed part.kind part.buffer.0 (part_connection world part)
-        clients.old clients.new }
-{
-    match spelled {
-        Ok(event) => clients.serve_all(alloc, &Service::Tell(event)),
-        Err(NoMemory) => {
-            clients.serve_all(alloc, &Service::Starve(kind, buffer));
-            false
-        }
-    }
 }

@@ -1,4 +1,5 @@
 pub mod FoundLaws
+pub mod InOrderLaws
 pub mod OrderLaws
 pub mod TextLaws
 pub mod WordLaws

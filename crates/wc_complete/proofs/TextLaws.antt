@@ -14,7 +14,7 @@ use Rattle.wc_complete.specs.declared.completion.Completion.{Completion}
 use Rattle.wc_complete.specs.declared.completion.Context.{Context}
 use Rattle.wc_complete.specs.declared.completion.Context.TheVariants.{Command, Auto}
 use Rattle.wc_complete.specs.BaseWord.{begins_char, starts, front_chars, front_at, is_blank, last_word}
-use Rattle.wc_complete.specs.Candidates.{begins_as, slashed, all_slashed}
+use Rattle.wc_complete.specs.Candidates.{begins_as, slashed}
 use Rattle.wc_complete.specs.NickNames.{nick_name, nick_names}
 use Rattle.wc_complete.specs.Completed.{Completes, context_of, candidates_of}
 use Rattle.wc_complete.proofs.WordLaws.{word_or_all}
@@ -67,6 +67,10 @@ word_is_text text u = by (list_any is_blank text) refl where
       let split = word_split text e in
       (utf8_parts split.0 32 (last_word text) (omega arith) (subst IsUtf8 split.1 u)).1
   by false e = let all : last_word text ≡ text = rw e at (word_or_all text) in subst IsUtf8 (sym all) u
+
+-- the word that ends at a position of a text
+pub base_is_text : (position : ℤ) (text word : List ℕ) → word ≡ last_word (front_at position text) → IsUtf8 text → IsUtf8 word
+base_is_text position text word e u = subst IsUtf8 (sym e) (word_is_text (front_at position text) (front_is_text position text u))
 
 abbrev HasText : Row → Type 0
 HasText row = IsUtf8 row.item.name

@@ -1,13 +1,14 @@
 ghost use Rattle.std.specs.Prelude.{◌≡◌, ◌≤◌, ◌⊎◌, ◌<ℤ◌, ◌≤ℤ◌, negsuc, true, false, length, IfOk};
-ghost use Rattle.std.specs.Prelude.{MatchOption, filter};
+ghost use Rattle.std.specs.Prelude.{◌<◌, IfSome, MatchOption, filter};
+ghost use Rattle.std.specs.Str.{IsUtf8};
 ghost use Rattle.wc_buffers.specs.Calls.{is_there};
 ghost use Rattle.wc_model.specs.World.{rows_at};
-ghost use Rattle.wc_complete.specs.BaseWord.{front_at};
+ghost use Rattle.wc_complete.specs.BaseWord.{front_at, last_word};
 ghost use Rattle.wc_complete.specs.Completed.{Completes, context_by, candidates_of, context_name};
-ghost use Rattle.wc_complete.specs.Completed.{begins_with_slash};
+ghost use Rattle.wc_complete.specs.Completed.{begins_with_slash, completion_of, completion_at};
 ghost use Rattle.wc_complete.specs.declared.completion.Context.TheVariants.{Command};
 ghost use Rattle.wc_complete.specs.Candidates.{begins_as};
-ghost use Rattle.wc_complete.specs.Order.{IsInOrder};
+ghost use Rattle.wc_complete.specs.Order.{IsInOrder, in_order};
 
 use crate::base_word::{char_count, front_at, last_word};
 use crate::found::commands_found;
@@ -17,6 +18,9 @@ use std::alloc::Global;
 use wc_nicklist::Nicklist;
 use wc_text::{Handle, Items, NoMemory, Text};
 use wc_world::World;
+
+/// No line that is read holds a longer text.
+const LONGEST: usize = 65_536;
 
 /// What kind of word is completed.
 #[derive(Clone, Copy, Debug, PartialEq, Eq)]
@@ -56,8 +60,9 @@ pub struct Completion {
 /// begins the text with a `/`, and else a nick of the buffer.
 ///
 /// The position counts characters; -1 and one after the end are the end. The word is the longest
-/// run without blanks that ends there. None exactly where the buffer is not there or the position
-/// is below -1.
+/// run without blanks that ends there. None exactly where the buffer is not there, the position is
+/// below -1, or the text has more than 65,536 bytes.
+#[tactic(auto, unfolding(crate::specs::Completed::completion_at))]
 pub fn complete(
     alloc: Global,
     world: &World,
@@ -66,15 +71,19 @@ pub fn complete(
     position: i64,
     text: &[u8],
 ) -> Result<Option<Completion>, NoMemory>
-    requires { length text.now ≤ 65536 }
     ensures model { IfOk result (λ found. MatchOption found
-        ((is_there buffer world.now.groups ≡ false) ⊎ (position <ℤ negsuc 0))
+        ((is_there buffer world.now.groups ≡ false) ⊎ (position <ℤ negsuc 0)
+        ⊎ (65536 < length text.now))
         (λ completion. (is_there buffer world.now.groups ≡ true)
         × (negsuc 0 ≤ℤ position)
         × Completes commands.now (rows_at world.now buffer.0)
         (front_at position text.now) completion)) }
+    ensures value { IfOk result (λ found. found
+        ≡ completion_at world.now commands.now buffer position text.now) }
+    ensures text { IfOk result (λ found. IfSome found
+        (λ completion. IsUtf8 text.now → IsUtf8 completion.base_word)) }
 {
-    if position < -1 {
+    if position < -1 || text.len() > LONGEST {
         return Ok(None);
     }
     let Some(nicks) = world.nicks(buffer) else {
@@ -87,6 +96,7 @@ pub fn complete(
 }
 
 /// What completes the last word of a text.
+#[tactic(auto, unfolding(crate::specs::Completed::completion_of))]
 fn completed(
     alloc: Global,
     nicks: &Nicklist,
@@ -94,8 +104,11 @@ fn completed(
     front: &[u8],
 ) -> Result<Completion, NoMemory>
     requires { length front.now ≤ 65536 }
-    ensures { IfOk result (λ completion.
+    ensures model { IfOk result (λ completion.
         Completes commands.now nicks.now.rows front.now completion) }
+    ensures value { IfOk result (λ completion. completion
+        ≡ completion_of commands.now nicks.now.rows front.now) }
+    ensures word { IfOk result (λ completion. completion.base_word ≡ last_word front.now) }
 {
     let word = last_word(front);
     let before = front.split_at(front.len() - word.len()).0;
@@ -129,8 +142,10 @@ fn list_of(
     word: &[u8],
 ) -> Result<Items<Text>, NoMemory>
     requires { context ≡ Command → begins_with_slash word.now ≡ true }
-    ensures { IfOk result (λ list. IsInOrder (filter (begins_as word.now)
+    ensures order { IfOk result (λ list. IsInOrder (filter (begins_as word.now)
         (candidates_of context commands.now nicks.now.rows)) list) }
+    ensures value { IfOk result (λ list. list ≡ in_order (filter (begins_as word.now)
+        (candidates_of context commands.now nicks.now.rows))) }
 {
     let mut found = match context {
         Context::Command => commands_found(alloc, commands, &word[1..])?,

@@ -1,12 +1,13 @@
 ghost use Rattle.std.specs.Prelude.{◌≡◌, IfOk};
-ghost use Rattle.wc_complete.specs.Order.{IsInOrder};
+ghost use Rattle.wc_complete.specs.Order.{IsInOrder, in_order};
 
 use std::alloc::Global;
 use wc_text::{Items, NoMemory, Text, fold_cmp};
 
 /// Puts texts in order, each once.
 pub(crate) fn in_order(texts: &mut Vec<Text>)
-    ensures { IsInOrder texts.old.items texts.new.items }
+    ensures order { IsInOrder texts.old.items texts.new.items }
+    ensures value { texts.new.items ≡ in_order texts.old.items }
 {
     texts.sort_unstable_by(|a, b| fold_cmp(a.as_slice(), b.as_slice()));
     texts.dedup_by(|a, b| a.as_slice() == b.as_slice());

@@ -3,12 +3,12 @@ use Rattle.std.proofs.Common.{◌≡◌, ℕ, List, [], ◌∷◌, ◌++◌, Opt
 use Rattle.std.specs.List.{filter, filter_map, list_any, cons_option}
 use Rattle.std.specs.Prelude.{bytes_eq}
 use Rattle.std.proofs.lemmas.Slice.Eq.{bytes_eq-Decides}
-use Rattle.wc_hdata.specs.declared.element.Element.{Element}
 use Rattle.wc_keys.specs.declared.key.Key.{Key}
+use Rattle.wc_keys.specs.declared.key.KeyList.{KeyList}
 use Rattle.wc_text.specs.Splits.{before, text_after}
 use Rattle.wc_hdata.specs.Pieces.{pieces_at}
 use Rattle.wc_keys.specs.Keys.{key_name, same_key}
-use Rattle.wc_hdata.specs.Keys.{has_key, key_named, firsts, named_keys, with_key, keys_of}
+use Rattle.wc_hdata.specs.Keys.{has_key, key_named, firsts, named_keys, with_key, keys_asked_in}
 use Rattle.wc_hdata.proofs.CutLemmas.{pieces_cut}
 
 -- keys with more of them, one by one
@@ -84,26 +84,26 @@ adds_firsts : (more : List Key) → adds [] more ≡ firsts more
 adds_firsts more = adds_are more [] ∙ filter_none (firsts more)
 
 -- ---- as the names are read one by one
-abbrev pub keys_left : Element → Option (List ℕ) → List Key
-keys_left element rest = filter_map (key_named element) (pieces_at 44 rest)
+abbrev pub keys_left : KeyList → Option (List ℕ) → List Key
+keys_left list rest = filter_map (key_named list) (pieces_at 44 rest)
 
 add_first : (keys more : List Key) (key : Option Key) → adds keys (cons_option key more) ≡ adds (with_key keys key) more
 unfolding adds
 add_first keys more None = refl
 add_first keys more (Some key) = refl
 
-pub keys_more : (element : Element) (keys new all : List Key) (key : Option Key) (names name : List ℕ) (rest : Option (List ℕ))
-    → adds keys (keys_left element (Some names)) ≡ all → name ≡ before 44 names → rest ≡ text_after 44 names → key ≡ key_named element name → new ≡ with_key keys key
-    → adds new (keys_left element rest) ≡ all
-keys_more element keys new all key names name rest so_far cut after_it found pushed =
-    ap (λ (ks : List Key). adds ks (keys_left element rest)) (pushed ∙ ap (with_key keys) (found ∙ ap (key_named element) cut))
-    ∙ ap (λ (o : Option (List ℕ)). adds (with_key keys (key_named element (before 44 names))) (keys_left element o)) after_it
-    ∙ sym (add_first keys (keys_left element (text_after 44 names)) (key_named element (before 44 names)))
-    ∙ ap (λ (ps : List (List ℕ)). adds keys (filter_map (key_named element) ps)) (sym (pieces_cut 44 names)) ∙ so_far
+pub keys_more : (list : KeyList) (keys new all : List Key) (key : Option Key) (names name : List ℕ) (rest : Option (List ℕ))
+    → adds keys (keys_left list (Some names)) ≡ all → name ≡ before 44 names → rest ≡ text_after 44 names → key ≡ key_named list name → new ≡ with_key keys key
+    → adds new (keys_left list rest) ≡ all
+keys_more list keys new all key names name rest so_far cut after_it found pushed =
+    ap (λ (ks : List Key). adds ks (keys_left list rest)) (pushed ∙ ap (with_key keys) (found ∙ ap (key_named list) cut))
+    ∙ ap (λ (o : Option (List ℕ)). adds (with_key keys (key_named list (before 44 names))) (keys_left list o)) after_it
+    ∙ sym (add_first keys (keys_left list (text_after 44 names)) (key_named list (before 44 names)))
+    ∙ ap (λ (ps : List (List ℕ)). adds keys (filter_map (key_named list) ps)) (sym (pieces_cut 44 names)) ∙ so_far
 
-pub keys_end : (element : Element) (keys : List Key) (text : List ℕ) (rest : Option (List ℕ)) → (text ≡ [] → ⊥) → rest ≡ None
-    → adds keys (keys_left element rest) ≡ adds [] (keys_left element (Some text)) → keys ≡ keys_of element text
+pub keys_end : (list : KeyList) (keys : List Key) (text : List ℕ) (rest : Option (List ℕ)) → (text ≡ [] → ⊥) → rest ≡ None
+    → adds keys (keys_left list rest) ≡ adds [] (keys_left list (Some text)) → keys ≡ keys_asked_in list text
 unfolding named_keys adds
-keys_end element keys [] rest some none so_far = absurd (some refl)
-keys_end element keys (b ∷ text) rest some none so_far =
-    ap (λ (o : Option (List ℕ)). adds keys (keys_left element o)) (sym none) ∙ so_far ∙ adds_firsts (keys_left element (Some (b ∷ text)))
+keys_end list keys [] rest some none so_far = absurd (some refl)
+keys_end list keys (b ∷ text) rest some none so_far =
+    ap (λ (o : Option (List ℕ)). adds keys (keys_left list o)) (sym none) ∙ so_far ∙ adds_firsts (keys_left list (Some (b ∷ text)))

@@ -28,12 +28,13 @@ use Rattle.wc_model.specs.World.{World}
 use Rattle.wc_hdata.specs.declared.element.Element.{Element}
 use Rattle.wc_hdata.specs.declared.element.Element.TheVariants as Elements
 use Rattle.wc_keys.specs.declared.key.Key.{Key}
+use Rattle.wc_keys.specs.declared.key.KeyList.{KeyList}
 use Rattle.wc_hdata.specs.declared.path.Path.{Path}
 use Rattle.wc_hdata.specs.Hdata.{keys_asked, walk_object}
 use Rattle.wc_hdata.specs.Kept.{Listed, IsKept}
 use Rattle.wc_keys.specs.Keys.{kind_of_key, same_key, keys_text}
-use Rattle.wc_hdata.specs.Keys.{keys_at, key_named, firsts, named_keys, keys_of}
-use Rattle.wc_keys.specs.Keys.{key_name, is_own, own_keys}
+use Rattle.wc_hdata.specs.Keys.{list_at, keys_at, key_named, firsts, named_keys, keys_asked_in, keys_of}
+use Rattle.wc_keys.specs.Keys.{key_name, keys_in, is_own, own_keys}
 use Rattle.wc_hdata.specs.Paths.{element_at, h_path_of}
 use Rattle.wc_hdata.specs.Reached.{Place, HeldLine, Buffer, Lines, Line_at, Data_at}
 use Rattle.wc_hdata.specs.Refusals.{reached}
@@ -74,18 +75,18 @@ firsts_are : (P : Key → Type 0) (keys : List Key) → AllByRecursion P keys �
 firsts_are P [] all = tt
 firsts_are P (key ∷ keys) all = (all.0, filtered_are P (λ other. not (same_key key other)) (firsts keys) (firsts_are P keys all.1))
 
-asked_are : (P : Key → Type 0) (element : Element) (text : List ℕ) → AllByRecursion P (keys_at element) → AllByRecursion P (keys_of element text)
+pub asked_are : (P : Key → Type 0) (list : KeyList) (text : List ℕ) → AllByRecursion P (keys_in list) → AllByRecursion P (keys_asked_in list text)
 unfolding named_keys
-asked_are P element [] all = filtered_are P (λ key. not (is_own key)) (keys_at element) all
-asked_are P element (b ∷ text) all =
-    firsts_are P _ (mapped_are P (key_named element) (λ name key found. found_is P (λ key. bytes_eq name (key_name key)) (keys_at element) key all found) (slice_split (λ b. eqb b 44) (b ∷ text)))
+asked_are P list [] all = filtered_are P (λ key. not (is_own key)) (keys_in list) all
+asked_are P list (b ∷ text) all =
+    firsts_are P _ (mapped_are P (key_named list) (λ name key found. found_is P (λ key. bytes_eq name (key_name key)) (keys_in list) key all found) (slice_split (λ b. eqb b 44) (b ∷ text)))
 
 -- ---- each key has a value of its type
 abbrev pub IsValue : Key → Option Object → Type 0
 IsValue key None = ⊥
 IsValue key (Some value) = value_is (kind_of_key key) value ≡ true
 
-values_fit : (f : Key → Option Object) (keys : List Key) → AllByRecursion (λ key. IsValue key (f key)) keys → values_are (map kind_of_key keys) (filter_map f keys) ≡ true
+pub values_fit : (f : Key → Option Object) (keys : List Key) → AllByRecursion (λ key. IsValue key (f key)) keys → values_are (map kind_of_key keys) (filter_map f keys) ≡ true
 values_fit f [] all = refl
 values_fit f (key ∷ keys) all = by (f key) all.0 (values_fit f keys all.1)
   where
@@ -95,11 +96,11 @@ values_fit f (key ∷ keys) all = by (f key) all.0 (values_fit f keys all.1)
     by (Some value) fits others = and_from (value_is (kind_of_key key) value) (values_are (map kind_of_key keys) (filter_map f keys)) fits others
 
 -- ---- values by their types
-int_formed : (n : ℤ) → value_is kind.Int (o.Int n) ≡ true
+pub int_formed : (n : ℤ) → value_is kind.Int (o.Int n) ≡ true
 unfolding value_is simple_is out-Object out
 int_formed n = refl
 
-ptr_formed : (n : ℕ) → value_is kind.Ptr (o.Ptr n) ≡ true
+pub ptr_formed : (n : ℕ) → value_is kind.Ptr (o.Ptr n) ≡ true
 unfolding value_is simple_is out-Object out
 ptr_formed n = refl
 
@@ -111,7 +112,7 @@ chr_formed : (n : ℤ) → value_is kind.Chr (o.Chr n) ≡ true
 unfolding value_is simple_is out-Object out
 chr_formed n = refl
 
-str_formed : (bytes : List ℕ) → IsUtf8 bytes → value_is kind.Str (text bytes) ≡ true
+pub str_formed : (bytes : List ℕ) → IsUtf8 bytes → value_is kind.Str (text bytes) ≡ true
 unfolding value_is simple_is out-Object out
 str_formed bytes h = is_utf8-from_IsUtf8 bytes h
 
@@ -120,7 +121,7 @@ unfolding simple_is out-Object out
 tags_simple [] _ = refl
 tags_simple (tag ∷ tags) h = rw (is_utf8-from_IsUtf8 tag h.0) (tags_simple tags h.1)
 
-tags_formed : (tags : List (List ℕ)) → All IsUtf8 tags → value_is kind.Arr (o.Arr kind.Str (texts tags)) ≡ true
+pub tags_formed : (tags : List (List ℕ)) → All IsUtf8 tags → value_is kind.Arr (o.Arr kind.Str (texts tags)) ≡ true
 unfolding value_is
 tags_formed tags h = rw (← o.rolls-Arr kind.Str (texts tags), out-roll-Object) (tags_simple tags (recursion_from_All IsUtf8 tags h))
 
@@ -171,7 +172,7 @@ place_fits world (Line_at held) are kept = (ptr_formed _, tt)
 place_fits world (Data_at held) are kept = data_fits held kept
 
 -- ---- an item
-parts_fit : (pointers : List ℕ) (values : List Object) (depth : ℕ) (kinds : List Kind) → length pointers ≡ depth → values_are kinds values ≡ true
+pub parts_fit : (pointers : List ℕ) (values : List Object) (depth : ℕ) (kinds : List Kind) → length pointers ≡ depth → values_are kinds values ≡ true
     → item_is depth (Some kinds) (roll-HdaItem (record { pointers = pointers; values = values })) ≡ true
 unfolding item_is
 parts_fit pointers values depth kinds deep fits =
@@ -183,7 +184,7 @@ item_fits : (world : World) (element : Element) (depth : ℕ) (asked : List ℕ)
     → item_is depth (Some (map kind_of_key (keys_of element asked))) (item_of world (keys_of element asked) node) ≡ true
 item_fits world element depth asked node are kept of =
     let keys = keys_of element asked in
-    let each = asked_are (λ key. IsValue key (value_of world node.place key)) element asked
+    let each = asked_are (λ key. IsValue key (value_of world node.place key)) (list_at element) asked
     (subst (λ (e : Element). AllByRecursion (λ key. IsValue key (value_of world node.place key)) (keys_at e)) of.0 (place_fits world node.place are kept)) in
     parts_fit node.pointers (values_of world keys node.place) depth (map kind_of_key keys) of.1 (values_fit (value_of world node.place) keys each)
 
@@ -194,7 +195,7 @@ items_fit world element depth asked (node ∷ nodes) are kept of =
     and_from (item_is depth _ (item_of world (keys_of element asked) node)) _ (item_fits world element depth asked node are kept.0 of.0) (items_fit world element depth asked nodes are kept.1 of.1)
 
 -- ---- the whole
-hda_fits : (path keys : List ℕ) (items : List HdaItem) (depth : ℕ) (kinds : List Kind) → is_utf8 path ≡ true → is_path path ≡ true → is_utf8 keys ≡ true → kinds_of keys ≡ Some kinds → length (names_of path) ≡ depth
+pub hda_fits : (path keys : List ℕ) (items : List HdaItem) (depth : ℕ) (kinds : List Kind) → is_utf8 path ≡ true → is_path path ≡ true → is_utf8 keys ≡ true → kinds_of keys ≡ Some kinds → length (names_of path) ≡ depth
     → list_all (λ item. item_is depth (Some kinds) item) items ≡ true → well_formed (o.Hda (roll-Hda (record { path = Some path; keys = Some keys; items = items })) ∷ []) ≡ true
 unfolding well_formed object_is hda_is
 hda_fits path keys items depth kinds text_is named keys_is typed deep each =

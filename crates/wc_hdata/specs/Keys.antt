@@ -22,9 +22,9 @@ list_at Elements.LineData = l.LineData
 abbrev pub keys_at : Element → List Key
 keys_at element = keys_in (list_at element)
 
--- the key of that name among those of an element
-abbrev pub key_named : Element → List ℕ → Option Key
-key_named element text = find (λ key. bytes_eq text (key_name key)) (keys_at element)
+-- the key of that name among those of a list
+abbrev pub key_named : KeyList → List ℕ → Option Key
+key_named list text = find (λ key. bytes_eq text (key_name key)) (keys_in list)
 
 abbrev pub has_key : List Key → Key → Bool
 has_key keys key = list_any (λ other. same_key other key) keys
@@ -34,18 +34,22 @@ abbrev pub firsts : List Key → List Key
 firsts [] = []
 firsts (key ∷ keys) = key ∷ filter (λ other. not (same_key key other)) (firsts keys)
 
--- the keys that a text names between commas
-unfoldable pub named_keys : Element → List ℕ → List Key
-named_keys element text = firsts (filter_map (key_named element) (slice_split (λ b. b == 44) text))
+-- the keys of a list that a text names between commas
+unfoldable pub named_keys : KeyList → List ℕ → List Key
+named_keys list text = firsts (filter_map (key_named list) (slice_split (λ b. b == 44) text))
 
 -- keys without those that are our own
 abbrev pub without_own : List Key → List Key
 without_own keys = filter (λ key. not (is_own key)) keys
 
 -- the same, or all but our own where the text is empty
+abbrev pub keys_asked_in : KeyList → List ℕ → List Key
+keys_asked_in list [] = without_own (keys_in list)
+keys_asked_in list (b ∷ text) = named_keys list (b ∷ text)
+
+-- those of an element
 abbrev pub keys_of : Element → List ℕ → List Key
-keys_of element [] = without_own (keys_at element)
-keys_of element (b ∷ text) = named_keys element (b ∷ text)
+keys_of element text = keys_asked_in (list_at element) text
 
 -- keys with one more, unless it is among them
 abbrev pub with_key : List Key → Option Key → List Key

@@ -35,7 +35,7 @@ pub use element::Element;
 pub use grammar::read_path;
 pub use infos::{info, infolist};
 pub use key::Key;
-pub use keys::{keys_text, read_keys};
+pub use keys::{keys_text, read_keys, read_keys_in};
 pub use laws::{
     buffer_dump_is_walk, dump_paths, dumps_give_few_pointers, line_dump_is_walk, one_path,
     walks_are_sound,

@@ -1,5 +1,6 @@
 pub mod Apart
 pub mod Handles
+pub mod KeptLaws
 pub mod Levels
 pub mod MeansLaws
 pub mod Put

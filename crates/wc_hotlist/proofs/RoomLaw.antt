@@ -56,7 +56,7 @@ named h (pair ∷ pairs) there all e = by (named h pairs there (λ k d inside. a
     levels_at : is_of h pair ≡ false → is_filled (levels_of h (pair ∷ pairs)) ≡ is_filled (levels_of h pairs)
     levels_at f = rw f refl
 
--- what `Hotlist::line` requires: each buffer that had a line is there, and so is this one
+-- where each buffer that had a line is there, and so is this one, `Hotlist::line` counts it
 pub is_room_for : (rows : List HotRow) (pairs : List HotPair) (there : List Handle) (buffer : Handle) → Means rows pairs → All (IsThere there) pairs → has buffer there ≡ true → length there ≤ 256
     → IsTrue (has_row buffer rows) ⊎ (length rows < 256)
 is_room_for rows pairs there buffer means all here most = by (cases_Bool (has_row buffer rows)) where

@@ -1,11 +1,13 @@
-ghost use Rattle.std.specs.Prelude.{◌≡◌, ◌≤◌, ◌<◌, ◌+◌, ◌⊎◌, ◌≤ℤ◌, pos, negsuc, List, [], ◌∷◌, ◌++◌, IfOk};
-ghost use Rattle.std.specs.Prelude.{IsTrue, length, vec_len, vec_capacity};
+ghost use Rattle.std.specs.Prelude.{◌≡◌, ◌≤◌, ◌<◌, ◌+◌, ◌⊎◌, ◌≤ℤ◌, pos, List, [], IfOk, true};
+ghost use Rattle.std.specs.Prelude.{IsTrue, length, slice_index_or, vec_len, vec_capacity};
 ghost use Rattle.std.specs.Iterator.{YieldsFirst, item_count};
 ghost use Rattle.wc_hotlist.specs.HotRows.{rows_left};
 ghost use Rattle.wc_hotlist.specs.Pairs.{HotPair, pairs_with, pairs_without};
 ghost use Rattle.wc_hotlist.specs.Rows.{rows_of, has_row};
 ghost use Rattle.wc_hotlist.specs.Means.{Means};
 ghost use Rattle.wc_hotlist.specs.Counted.{place_of, lower_place, put_row};
+ghost use Rattle.wc_hotlist.specs.Kept.{rows_with, rows_without, rows_counted, rows_raised};
+ghost use Rattle.wc_hotlist.specs.declared.row.HotRow.{HotRow as HotRowValue};
 
 use crate::row::HotRow;
 use std::alloc::Global;
@@ -50,16 +52,16 @@ impl Hotlist {
     }
 
     /// A line was printed on a buffer. It counts where it was displayed and its level of
-    /// notification is 0 or more.
+    /// notification is from 0 to 3, unless 256 other buffers have rows.
+    #[tactic(auto, unfolding(crate::specs::Kept::rows_with))]
     pub fn line(&mut self, buffer: Handle, notify: i8, displayed: bool)
-        requires room { IsTrue (has_row buffer self.old) ⊎ (length self.old < 256) }
-        requires least { negsuc 0 ≤ℤ notify }
-        requires most { notify ≤ℤ pos 3 }
-        ensures model { (pairs : List HotPair) → Means self.old pairs
+        ensures rows { self.new ≡ rows_with self.old buffer notify displayed }
+        ensures model { IsTrue (has_row buffer self.old) ⊎ (length self.old < 256) →
+            notify ≤ℤ pos 3 → (pairs : List HotPair) → Means self.old pairs
             → Means self.new (pairs_with pairs buffer notify displayed) }
     {
-        if displayed && notify >= 0 {
-            count_line(&mut self.rows, buffer, notify.unsigned_abs());
+        if displayed {
+            count_displayed(&mut self.rows, buffer, notify);
         }
     }
 
@@ -73,6 +75,7 @@ impl Hotlist {
 
     /// Takes the row of a buffer out, where it has one.
     pub fn remove(&mut self, buffer: Handle)
+        ensures rows { self.new ≡ rows_without buffer self.old }
         ensures model { (pairs : List HotPair) → Means self.old pairs
             → Means self.new (pairs_without buffer pairs) }
     {
@@ -100,22 +103,54 @@ impl Hotlist {
     }
 }
 
-/// Counts a line of this level, and moves the row of its buffer where the level is a new greatest
-/// one.
+/// Counts a line that was displayed, by its level of notification.
+#[tactic(auto, unfolding(crate::specs::Kept::rows_with))]
+fn count_displayed(rows: &mut Vec<HotRow>, buffer: Handle, notify: i8)
+    requires room { 256 ≤ vec_capacity rows.old }
+    requires within { vec_len rows.old ≤ 256 }
+    ensures rows { rows.new.items ≡ rows_with rows.old.items buffer notify true }
+    ensures room { vec_capacity rows.new ≡ vec_capacity rows.old }
+    ensures within { vec_len rows.new ≤ 256 }
+{
+    if let Ok(level) = u8::try_from(notify)
+        && level < 4
+    {
+        count_line(rows, buffer, level);
+    }
+}
+
+/// Counts a line of this level. A buffer without a row gets one where there is room.
 fn count_line(rows: &mut Vec<HotRow>, buffer: Handle, level: u8)
     requires level { level < 4 }
     requires room { 256 ≤ vec_capacity rows.old }
     requires within { vec_len rows.old ≤ 256 }
-    requires free { IsTrue (has_row buffer rows.old.items) ⊎ (vec_len rows.old < 256) }
-    ensures model { (pairs : List HotPair) → Means rows.old.items pairs
-        → Means rows.new.items (pairs ++ record { buffer = buffer; level = level } ∷ []) }
+    ensures rows { rows.new.items
+        ≡ rows_counted buffer level rows.old.items (place_of buffer rows.old.items) }
     ensures room { vec_capacity rows.new ≡ vec_capacity rows.old }
     ensures within { vec_len rows.new ≤ 256 }
 {
-    let Some(place) = place_of(rows, buffer) else {
-        put_row(rows, HotRow::first(buffer, level));
-        return;
-    };
+    match place_of(rows, buffer) {
+        Some(place) => count_at(rows, place, level),
+        None => {
+            if rows.len() < ROOM {
+                put_row(rows, HotRow::first(buffer, level));
+            }
+        }
+    }
+}
+
+/// Counts a line of this level in the row at a place, and moves the row where the level is a new
+/// greatest one.
+fn count_at(rows: &mut Vec<HotRow>, place: usize, level: u8)
+    requires place { place < vec_len rows.old }
+    requires level { level < 4 }
+    requires room { 256 ≤ vec_capacity rows.old }
+    requires within { vec_len rows.old ≤ 256 }
+    ensures rows { (row : HotRowValue) → rows.new.items
+        ≡ rows_raised level rows.old.items place (slice_index_or rows.old.items place row) }
+    ensures room { vec_capacity rows.new ≡ vec_capacity rows.old }
+    ensures within { vec_len rows.new ≤ 256 }
+{
     let row = rows[place];
     if level <= row.priority {
         rows[place] = row.counted(level);
@@ -146,9 +181,9 @@ fn lower_place(rows: &[HotRow], priority: u8) -> Option<usize>
 }
 
 /// Takes the row of a buffer out, where it has one.
+#[tactic(auto, unfolding(crate::specs::Kept::rows_without))]
 fn remove_row(rows: &mut Vec<HotRow>, buffer: Handle)
-    ensures model { (pairs : List HotPair) → Means rows.old.items pairs
-        → Means rows.new.items (pairs_without buffer pairs) }
+    ensures rows { rows.new.items ≡ rows_without buffer rows.old.items }
     ensures room { vec_capacity rows.new ≡ vec_capacity rows.old }
     ensures fewer { vec_len rows.new ≤ vec_len rows.old }
 {

@@ -4,6 +4,7 @@ pub mod LoginLaws
 pub mod NameLemmas
 pub mod OneReplyLaws
 pub mod PushLemmas
+pub mod RepliesFormed
 pub mod SendingLemmas
 pub mod ServedLemmas
 pub mod SetLemmas

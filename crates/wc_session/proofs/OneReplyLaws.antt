@@ -19,7 +19,7 @@ use Rattle.wc_session.specs.Logins.{pairs_let_in}
 use Rattle.wc_session.specs.Names.{buffer_named}
 use Rattle.wc_session.specs.OneReply.{AtMostOne, IsOneReply, id_of_reply}
 use Rattle.wc_session.specs.Reply.{Answer, silent, leaves, replies, typed_into, shaken, handshake_reply, handshake_answer, init_answer, input_answer, is_open, served, reply_of}
-use Rattle.wc_options.specs.Options.{OptionsValue}
+use Rattle.wc_session.specs.RequestContext.{Context}
 use Rattle.wc_session.specs.Heeded.{password_of, masks_of}
 use Rattle.wc_session.specs.Sending.{message, fits, fitting, null_hdata, reply}
 
@@ -65,25 +65,25 @@ typed_one id client text (Some buffer) = tt
 input_one : (id : List ℕ) (groups : EntryGroups) (client : Client) (buffer text : List ℕ) → AtMostOne id (input_answer groups client buffer text).messages
 input_one id groups client buffer text = typed_one id client text (buffer_named groups buffer)
 
-served_one : (world : World) (options : OptionsValue) (client : Client) (id : List ℕ) (command : Command) → AtMostOne (id_of_reply id command) (served world options client id command).messages
+served_one : (world : World) (context : Context) (client : Client) (id : List ℕ) (command : Command) → AtMostOne (id_of_reply id command) (served world context client id command).messages
 unfolding served
-served_one world options client id (ask.Handshake pairs) = handshake_one (masks_of options) client id pairs
-served_one world options client id (ask.Init pairs) = init_one id (masks_of options) (password_of options) client pairs
-served_one world options client id (ask.Hdata path keys) = replies_one id client _ (reply_one id _)
-served_one world options client id (ask.Info name) = replies_one id client _ (reply_one id _)
-served_one world options client id (ask.Infolist name argument) = replies_one id client _ (reply_one id _)
-served_one world options client id (ask.Nicklist buffer) = replies_one id client _ (reply_one id _)
-served_one world options client id (ask.Input buffer text) = input_one id world.groups client buffer text
-served_one world options client id (ask.Completion buffer position text) = replies_one id client _ (reply_one id _)
-served_one world options client id (ask.Sync buffers asked) = tt
-served_one world options client id (ask.Desync buffers asked) = tt
-served_one world options client id ask.Test = replies_one id client _ (reply_one id _)
-served_one world options client id (ask.Ping text) = replies_one (codes "_pong") client _ (reply_one (codes "_pong") _)
-served_one world options client id ask.Quit = tt
+served_one world context client id (ask.Handshake pairs) = handshake_one (masks_of context.options) client id pairs
+served_one world context client id (ask.Init pairs) = init_one id (masks_of context.options) (password_of context.options) client pairs
+served_one world context client id (ask.Hdata path keys) = replies_one id client _ (reply_one id _)
+served_one world context client id (ask.Info name) = replies_one id client _ (reply_one id _)
+served_one world context client id (ask.Infolist name argument) = replies_one id client _ (reply_one id _)
+served_one world context client id (ask.Nicklist buffer) = replies_one id client _ (reply_one id _)
+served_one world context client id (ask.Input buffer text) = input_one id world.groups client buffer text
+served_one world context client id (ask.Completion buffer position text) = replies_one id client _ (reply_one id _)
+served_one world context client id (ask.Sync buffers asked) = tt
+served_one world context client id (ask.Desync buffers asked) = tt
+served_one world context client id ask.Test = replies_one id client _ (reply_one id _)
+served_one world context client id (ask.Ping text) = replies_one (codes "_pong") client _ (reply_one (codes "_pong") _)
+served_one world context client id ask.Quit = tt
 
-pub one_reply : (world : World) (options : OptionsValue) (client : Client) (request : Request) → IsOneReply request (reply_of world options client request).messages
+pub one_reply : (world : World) (context : Context) (client : Client) (request : Request) → IsOneReply request (reply_of world context client request).messages
 unfolding reply_of
-one_reply world options client request =
+one_reply world context client request =
     if_answers_one (id_of_reply request.id request.command) (client.logged_in || is_open request.command)
-    (served world options client request.id request.command) (leaves client cause.LoginFailed)
-    (served_one world options client request.id request.command) tt
+    (served world context client request.id request.command) (leaves client cause.LoginFailed)
+    (served_one world context client request.id request.command) tt

@@ -18,7 +18,7 @@ use Rattle.wc_session.specs.Handshakes.{choice_in, algorithm_for}
 use Rattle.wc_session.specs.Logins.{pairs_let_in}
 use Rattle.wc_session.specs.Names.{buffer_named}
 use Rattle.wc_session.specs.Reply.{Answer, silent, leaves, replies, typed_into, shaken, handshake_reply, handshake_answer, init_answer, input_answer, is_open, served, reply_of}
-use Rattle.wc_options.specs.Options.{OptionsValue}
+use Rattle.wc_session.specs.RequestContext.{Context}
 use Rattle.wc_session.specs.Heeded.{password_of, masks_of}
 use Rattle.wc_session.specs.Served.{OnNoMemory, OnServed}
 
@@ -55,27 +55,27 @@ typed_served client text (Some buffer) = tt
 input_served : (groups : EntryGroups) (client : Client) (buffer text : List ℕ) → IsServed (input_answer groups client buffer text).outcome
 input_served groups client buffer text = typed_served client text (buffer_named groups buffer)
 
-served_served : (world : World) (options : OptionsValue) (client : Client) (id : List ℕ) (command : Command) → IsServed (served world options client id command).outcome
+served_served : (world : World) (context : Context) (client : Client) (id : List ℕ) (command : Command) → IsServed (served world context client id command).outcome
 unfolding served
-served_served world options client id (ask.Handshake pairs) = handshake_served (masks_of options) client id pairs
-served_served world options client id (ask.Init pairs) = init_served (masks_of options) (password_of options) client pairs
-served_served world options client id (ask.Hdata path keys) = replies_served client _
-served_served world options client id (ask.Info name) = replies_served client _
-served_served world options client id (ask.Infolist name argument) = replies_served client _
-served_served world options client id (ask.Nicklist buffer) = replies_served client _
-served_served world options client id (ask.Input buffer text) = input_served world.groups client buffer text
-served_served world options client id (ask.Completion buffer position text) = replies_served client _
-served_served world options client id (ask.Sync buffers asked) = tt
-served_served world options client id (ask.Desync buffers asked) = tt
-served_served world options client id ask.Test = replies_served client _
-served_served world options client id (ask.Ping text) = replies_served client _
-served_served world options client id ask.Quit = tt
+served_served world context client id (ask.Handshake pairs) = handshake_served (masks_of context.options) client id pairs
+served_served world context client id (ask.Init pairs) = init_served (masks_of context.options) (password_of context.options) client pairs
+served_served world context client id (ask.Hdata path keys) = replies_served client _
+served_served world context client id (ask.Info name) = replies_served client _
+served_served world context client id (ask.Infolist name argument) = replies_served client _
+served_served world context client id (ask.Nicklist buffer) = replies_served client _
+served_served world context client id (ask.Input buffer text) = input_served world.groups client buffer text
+served_served world context client id (ask.Completion buffer position text) = replies_served client _
+served_served world context client id (ask.Sync buffers asked) = tt
+served_served world context client id (ask.Desync buffers asked) = tt
+served_served world context client id ask.Test = replies_served client _
+served_served world context client id (ask.Ping text) = replies_served client _
+served_served world context client id ask.Quit = tt
 
-reply_served : (world : World) (options : OptionsValue) (client : Client) (request : Request) → IsServed (reply_of world options client request).outcome
+reply_served : (world : World) (context : Context) (client : Client) (request : Request) → IsServed (reply_of world context client request).outcome
 unfolding reply_of
-reply_served world options client request =
-    if_served (client.logged_in || is_open request.command) (served world options client request.id request.command) (leaves client cause.LoginFailed)
-    (served_served world options client request.id request.command) tt
+reply_served world context client request =
+    if_served (client.logged_in || is_open request.command) (served world context client request.id request.command) (leaves client cause.LoginFailed)
+    (served_served world context client request.id request.command) tt
 
 not_refused : (o : Outcome) (fact : Type 0) → IsServed o → OnNoMemory o fact
 not_refused outcome.Replied fact h = tt
@@ -85,11 +85,11 @@ not_refused (outcome.Leave why) fact h = tt
 not_refused outcome.NoMemory fact h = absurd h
 
 -- what a request gets is never want of memory
-pub answer_not_refused : (world : World) (options : OptionsValue) (client : Client) (request : Request) (o : Outcome) (fact : Type 0)
-    → o ≡ (reply_of world options client request).outcome → OnNoMemory o fact
-answer_not_refused world options client request o fact e =
+pub answer_not_refused : (world : World) (context : Context) (client : Client) (request : Request) (o : Outcome) (fact : Type 0)
+    → o ≡ (reply_of world context client request).outcome → OnNoMemory o fact
+answer_not_refused world context client request o fact e =
     let P : Outcome → Type 0 = λ o. IsServed o in
-    not_refused o fact (subst P (sym e) (reply_served world options client request))
+    not_refused o fact (subst P (sym e) (reply_served world context client request))
 
 pub on_served : (o : Outcome) (fact : Type 0) → fact → OnServed o fact
 on_served outcome.Replied fact h = h

@@ -1,10 +1,13 @@
+pub mod Completions
 pub mod Handshakes
 pub mod Heeded
+pub mod Hotlists
 pub mod Known
 pub mod Logins
 pub mod Names
 pub mod OneReply
 pub mod Reply
+pub mod RequestContext
 pub mod Sending
 pub mod Served
 pub mod Sync

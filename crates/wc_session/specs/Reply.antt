@@ -7,8 +7,8 @@ use Rattle.wc_text.specs.declared.names.Pair.{Pair}
 use Rattle.wc_text.specs.declared.names.Cause.{Cause}
 use Rattle.wc_text.specs.declared.names.Cause.TheVariants as cause
 use Rattle.wc_buffers.specs.Calls.{EntryGroups}
+use Rattle.wc_hotlist.specs.declared.row.HotRow.{HotRow}
 use Rattle.wc_model.specs.World.{World}
-use Rattle.wc_options.specs.Options.{OptionsValue}
 use Rattle.wc_relaycmd.specs.declared.request.Command.{Command}
 use Rattle.wc_relaycmd.specs.declared.request.Command.TheVariants as ask
 use Rattle.wc_relaycmd.specs.declared.request.Request.{Request}
@@ -29,10 +29,13 @@ use Rattle.wc_session.specs.declared.client.Client.{Client}
 use Rattle.wc_session.specs.declared.outcome.Outcome.{Outcome}
 use Rattle.wc_session.specs.declared.outcome.Outcome.TheVariants as outcome
 use Rattle.wc_session.specs.Sending.{reply, null_hdata}
+use Rattle.wc_session.specs.Completions.{completion_objects}
 use Rattle.wc_session.specs.Handshakes.{choice_in, algorithm_for, asks_escapes, handshake_objects}
 use Rattle.wc_session.specs.Heeded.{password_of, masks_of}
+use Rattle.wc_session.specs.Hotlists.{hotlist_objects, hotlist_text}
 use Rattle.wc_session.specs.Logins.{pairs_let_in}
 use Rattle.wc_session.specs.Names.{buffer_named}
+use Rattle.wc_session.specs.RequestContext.{Context}
 use Rattle.wc_session.specs.Sync.{synchronized, desynchronized}
 
 -- what a request gets: the messages that are sent, in order, what is answered to who asked, and
@@ -96,6 +99,12 @@ path_objects world keys (Some path) = unless_refused (refusal world path keys)
 -- path, and where the walk is refused
 unfoldable pub hdata_objects : World → List ℕ → List ℕ → List Object
 hdata_objects world path keys = path_objects world keys (path_of path)
+
+-- the same, but for the path of the hotlist, which leads to no buffer
+unfoldable pub hdata_answered : World → List HotRow → List ℕ → List ℕ → List Object
+hdata_answered world rows path keys =
+    if bytes_eq path hotlist_text then hotlist_objects rows keys
+    else hdata_objects world path keys
 
 -- the reply to `nicklist`: the nicklists of all buffers or that of one, and else the null hdata
 abbrev pub or_null : Option (List Object) → List Object
@@ -173,35 +182,35 @@ is_open ask.Quit = true
 is_open _ = false
 
 -- what a request gets that is served
-unfoldable pub served : World → OptionsValue → Client → List ℕ → Command → Answer
-served world options client id (ask.Handshake pairs) = handshake_answer (masks_of options) client id pairs
-served world options client id (ask.Init pairs) = init_answer (masks_of options) (password_of options) client pairs
-served world options client id (ask.Hdata path keys) =
-    replies client (reply id (hdata_objects world path keys))
-served world options client id (ask.Info name) = replies client (reply id (info_objects name))
-served world options client id (ask.Infolist name argument) =
+unfoldable pub served : World → Context → Client → List ℕ → Command → Answer
+served world context client id (ask.Handshake pairs) = handshake_answer (masks_of context.options) client id pairs
+served world context client id (ask.Init pairs) = init_answer (masks_of context.options) (password_of context.options) client pairs
+served world context client id (ask.Hdata path keys) =
+    replies client (reply id (hdata_answered world context.hotlist path keys))
+served world context client id (ask.Info name) = replies client (reply id (info_objects name))
+served world context client id (ask.Infolist name argument) =
     replies client (reply id (infolist_objects world name argument))
-served world options client id (ask.Nicklist buffer) =
+served world context client id (ask.Nicklist buffer) =
     replies client (reply id (nicklist_objects world buffer))
-served world options client id (ask.Input buffer text) =
+served world context client id (ask.Input buffer text) =
     input_answer world.groups client buffer text
-served world options client id (ask.Completion buffer position text) =
-    replies client (reply id null_hdata)
-served world options client id (ask.Sync buffers asked) =
+served world context client id (ask.Completion buffer position text) =
+    replies client (reply id (completion_objects world context.commands buffer position text))
+served world context client id (ask.Sync buffers asked) =
     silent (synchronized world.groups client buffers asked)
-served world options client id (ask.Desync buffers asked) =
+served world context client id (ask.Desync buffers asked) =
     silent (desynchronized world.groups client buffers asked)
-served world options client id ask.Test = replies client (reply id test_objects)
-served world options client id (ask.Ping text) =
+served world context client id ask.Test = replies client (reply id test_objects)
+served world context client id (ask.Ping text) =
     replies client (reply (codes "_pong") (pong_objects text))
-served world options client id ask.Quit = leaves client cause.Quit
+served world context client id ask.Quit = leaves client cause.Quit
 
--- What a request gets in this world, where these are the options. Before login a
+-- What a request gets in this world, where this is what it is answered from beside. Before login a
 -- handshake, `init` and `quit` are served, and any other request drops the client.
-unfoldable pub reply_of : World → OptionsValue → Client → Request → Answer
-reply_of world options client request =
+unfoldable pub reply_of : World → Context → Client → Request → Answer
+reply_of world context client request =
     if client.logged_in || is_open request.command
-    then served world options client request.id request.command
+    then served world context client request.id request.command
     else leaves client cause.LoginFailed
 
 -- ---- the dumps

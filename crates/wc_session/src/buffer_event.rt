@@ -1,7 +1,7 @@
 ghost use Rattle.std.specs.Prelude.{◌≡◌, List, [], false, IfOk, IfSome, MatchOption};
 ghost use Rattle.std.specs.Str.{IsUtf8};
 ghost use Rattle.wc_buffers.specs.Calls.{is_there};
-ghost use Rattle.wc_model.specs.Parts.{trim_part};
+ghost use Rattle.wc_model.specs.Parts.{flag_part, trim_part};
 ghost use Rattle.wc_model.specs.World.{World as WorldValue, rows_at, root_at};
 ghost use Rattle.wc_nickdiff.specs.Held.{before_at, touches_of};
 ghost use Rattle.wc_nickdiff.specs.NickPush.{nick_push};
@@ -15,7 +15,9 @@ use crate::sending::{send, send_nicks};
 use bytes::BytesMut;
 use std::alloc::Global;
 use std::marker::Model;
-use wc_events::{Nicks, event_id, event_objects, push_kind, trim_objects};
+use wc_events::{
+    FlipLookup, Nicks, event_id, event_objects, flagged_objects, push_kind, trim_objects,
+};
 use wc_model::{EventKind, Notice, Trim};
 use wc_nickdiff::{Pending, Push};
 use wc_text::{Handle, NoMemory};
@@ -56,6 +58,30 @@ impl BufferEvent {
         Ok(BufferEvent {
             kind: notice.kind,
             buffer: notice.buffer,
+            bytes,
+        })
+    }
+
+    /// Spells the event of a buffer's lines whose flags differ, in the world after the change, for
+    /// however many clients are to be sent it. It has no bytes where there are no such lines.
+    #[tactic(auto, unfolding(wc_events::specs::BufferObjects::objects_of))]
+    pub fn of_flags(
+        alloc: Global,
+        world: &World,
+        buffer: Handle,
+        flips: &FlipLookup<'_>,
+    ) -> Result<BufferEvent, NoMemory>
+        ensures { IfOk result (λ event.
+            IsEventOf event world.now (flag_part flips.now buffer.0)) }
+    {
+        let kind = EventKind::LineDataChanged;
+        let mut bytes = BytesMut::new(alloc);
+        if let Some(objects) = flagged_objects(alloc, world, buffer, flips)? {
+            let _fits = send(&mut bytes, event_id(kind), objects.as_slice())?;
+        }
+        Ok(BufferEvent {
+            kind,
+            buffer,
             bytes,
         })
     }

@@ -1,7 +1,6 @@
 //! What the definitions say of one another.
 
 ghost use Rattle.std.specs.Prelude.{◌↔◌, ℕ, List, IsTrue};
-ghost use Rattle.wc_options.specs.Options.{OptionsValue};
 ghost use Rattle.wc_relaycmd.specs.declared.algorithm.Algorithm.{Algorithm};
 ghost use Rattle.wc_relaycmd.specs.declared.login.Login.{Login};
 ghost use Rattle.wc_relaycmd.specs.Logins.{LetsIn};
@@ -17,6 +16,7 @@ ghost use Rattle.wc_session.specs.Event.{push_told};
 ghost use Rattle.wc_session.specs.Known.{Known};
 ghost use Rattle.wc_session.specs.OneReply.{IsOneReply};
 ghost use Rattle.wc_session.specs.Reply.{reply_of};
+ghost use Rattle.wc_session.specs.RequestContext.{Context};
 ghost use Rattle.wc_session.specs.Sending.{Sends};
 
 /// The test that a session takes of a login is the rule of who is let in.
@@ -27,8 +27,8 @@ pub fn lets_in_exactly()
 
 /// A request gets one message under its id, or none. The id is `_pong` for `ping`.
 pub fn one_reply_each()
-    ensures { (world : World) (options : OptionsValue) (client : Client) (request : Request) →
-        IsOneReply request (reply_of world options client request).messages }
+    ensures { (world : World) (context : Context) (client : Client) (request : Request) →
+        IsOneReply request (reply_of world context client request).messages }
 {}
 
 /// The event of one part of a notice puts after the unsent bytes of each client what that client is

@@ -4,7 +4,11 @@ ghost use Rattle.wc_events.specs.Nicks.{nicks_objects};
 ghost use Rattle.wc_objects.specs.Forms.{well_formed};
 ghost use Rattle.wc_relaycmd.specs.Utf8.{RequestIsUtf8, CommandUtf8};
 ghost use Rattle.wc_session.specs.declared.client.Client.{Client};
-ghost use Rattle.wc_session.specs.Reply.{hdata_objects, nicklist_objects, replies, input_answer};
+ghost use Rattle.wc_session.specs.Completions.{completion_objects};
+ghost use Rattle.wc_session.specs.Hotlists.{hotlist_objects};
+ghost use Rattle.wc_session.specs.RequestContext.{context_seen};
+ghost use Rattle.wc_session.specs.Reply.{hdata_answered, hdata_objects, nicklist_objects, replies};
+ghost use Rattle.wc_session.specs.Reply.{input_answer};
 ghost use Rattle.wc_session.specs.Reply.{info_objects, infolist_objects, test_objects, pong_objects};
 ghost use Rattle.wc_session.specs.Heeded.{password_of, masks_of};
 ghost use Rattle.wc_session.specs.Reply.{silent, is_open, served, reply_of};
@@ -13,21 +17,24 @@ ghost use Rattle.wc_session.specs.Sync.{synchronized, desynchronized};
 ghost use Rattle.wc_session.specs.Served.{GivesAnswer, IsQuiet};
 
 use crate::client::Client;
+use crate::completions::completion_objects;
 use crate::handshake::shake;
 use crate::heeded::{masks_of, password_of};
+use crate::hotlists::{asks_hotlist, hotlist_objects};
 use crate::login::log_in;
 use crate::names::buffer_named;
 use crate::objects::{info_objects, infolist_objects, nicks_asked, pong_objects, test_objects};
 use crate::outcome::Outcome;
 use crate::paths::reply_walk;
+use crate::request_context::RequestContext;
 use crate::sending::{null_hdata, reply, reply_nicks};
 use crate::sync::{desynchronize, synchronize};
 use bytes::BytesMut;
 use std::alloc::Global;
 use wc_buffers::Buffers;
 use wc_events::Nicks;
+use wc_hotlist::Hotlist;
 use wc_objects::Object;
-use wc_options::Options;
 use wc_relaycmd::{Command, Request};
 use wc_text::{Cause, Items, NoMemory, Text};
 use wc_world::World;
@@ -52,9 +59,27 @@ pub fn give(
     Ok(Outcome::Replied)
 }
 
-/// Serves `hdata`: what the path leads to, and the null hdata where the text spells no path or the
-/// walk is refused.
-fn give_hdata(
+/// Serves `hdata` on the path of the hotlist.
+fn give_hotlist(
+    alloc: Global,
+    out: &mut BytesMut,
+    hotlist: &Hotlist,
+    id: &[u8],
+    keys: &[u8],
+) -> Result<Outcome, NoMemory>
+    requires { IsUtf8 id.now }
+    ensures ok { IfOk result (λ outcome. (client : Client) →
+        GivesAnswer out.old.items out.new.items outcome client
+        (replies client (reply id.now (hotlist_objects hotlist.now keys.now)))) }
+    ensures err { OnErr result (out.new.items ≡ out.old.items) }
+{
+    let objects = hotlist_objects(alloc, hotlist, keys)?;
+    give(alloc, out, id, objects.as_slice())
+}
+
+/// Serves `hdata` on another path: what the path leads to, and the null hdata where the text spells
+/// no path or the walk is refused.
+fn give_walk(
     alloc: Global,
     out: &mut BytesMut,
     world: &World,
@@ -72,6 +97,60 @@ fn give_hdata(
         return Ok(Outcome::Silent);
     }
     Ok(Outcome::Replied)
+}
+
+/// Serves `hdata`.
+#[tactic(auto, unfolding(crate::specs::Reply::hdata_answered))]
+fn give_hdata(
+    alloc: Global,
+    out: &mut BytesMut,
+    world: &World,
+    hotlist: &Hotlist,
+    id: &[u8],
+    path: &[u8],
+    keys: &[u8],
+) -> Result<Outcome, NoMemory>
+    requires { IsUtf8 id.now }
+    ensures ok { IfOk result (λ outcome. (client : Client) →
+        GivesAnswer out.old.items out.new.items outcome client
+        (replies client (reply id.now
+        (hdata_answered world.now hotlist.now path.now keys.now)))) }
+    ensures err { OnErr result (out.new.items ≡ out.old.items) }
+{
+    if asks_hotlist(path) {
+        return give_hotlist(alloc, out, hotlist, id, keys);
+    }
+    give_walk(alloc, out, world, id, path, keys)
+}
+
+/// Serves `completion`.
+fn give_completion(
+    alloc: Global,
+    out: &mut BytesMut,
+    world: &World,
+    commands: &[Text],
+    id: &[u8],
+    buffer: &Text,
+    position: i64,
+    text: &Text,
+) -> Result<Outcome, NoMemory>
+    requires id { IsUtf8 id.now }
+    requires text { IsUtf8 text.now }
+    ensures ok { IfOk result (λ outcome. (client : Client) →
+        GivesAnswer out.old.items out.new.items outcome client
+        (replies client (reply id.now (completion_objects world.now commands.now buffer.now
+        position text.now)))) }
+    ensures err { OnErr result (out.new.items ≡ out.old.items) }
+{
+    let objects = completion_objects(
+        alloc,
+        world,
+        commands,
+        buffer.as_slice(),
+        position,
+        text.as_slice(),
+    )?;
+    give(alloc, out, id, objects.as_slice())
 }
 
 /// Serves a request by groups and nicks as its reply.
@@ -167,7 +246,7 @@ fn give_infolist(
     give(alloc, out, id, objects.as_slice())
 }
 
-/// Serves a request by the null hdata, as `completion`, of which there is none.
+/// Serves a request by the null hdata.
 fn give_null(alloc: Global, out: &mut BytesMut, id: &[u8]) -> Result<Outcome, NoMemory>
     requires { IsUtf8 id.now }
     ensures ok { IfOk result (λ outcome. (client : Client) →
@@ -239,35 +318,56 @@ fn serve_command(
     out: &mut BytesMut,
     client: &mut Client,
     world: &World,
-    options: &Options,
+    context: RequestContext<'_>,
     id: &[u8],
     command: Command,
 ) -> Result<Outcome, NoMemory>
     requires id { IsUtf8 id.now }
     requires command { CommandUtf8 command }
     ensures ok { IfOk result (λ outcome. GivesAnswer out.old.items out.new.items outcome client.new
-        (served world.now options.now client.old id.now command)) }
+        (served world.now (context_seen context.entry) client.old id.now command)) }
     ensures err { OnErr result (out.new.items ≡ out.old.items) }
     ensures still { OnErr result (client.new ≡ client.old) }
 {
     match command {
-        Command::Handshake(pairs) => shake(alloc, out, client, masks_of(options), id, &pairs),
+        Command::Handshake(pairs) => {
+            shake(alloc, out, client, masks_of(context.options), id, &pairs)
+        }
         Command::Init(pairs) => log_in(
             alloc,
             client,
-            masks_of(options),
-            password_of(options),
+            masks_of(context.options),
+            password_of(context.options),
             &pairs,
         ),
-        Command::Hdata { path, keys } => {
-            give_hdata(alloc, out, world, id, path.as_slice(), keys.as_slice())
-        }
+        Command::Hdata { path, keys } => give_hdata(
+            alloc,
+            out,
+            world,
+            context.hotlist,
+            id,
+            path.as_slice(),
+            keys.as_slice(),
+        ),
         Command::Info(name) => give_info(alloc, out, id, name),
         Command::Infolist { name, argument } => {
             give_infolist(alloc, out, world, id, &name, &argument)
         }
         Command::Nicklist(buffer) => give_nicks(alloc, out, world, id, &buffer),
-        Command::Completion { .. } => give_null(alloc, out, id),
+        Command::Completion {
+            buffer,
+            position,
+            text,
+        } => give_completion(
+            alloc,
+            out,
+            world,
+            context.commands,
+            id,
+            &buffer,
+            position,
+            &text,
+        ),
         Command::Input { buffer, text } => Ok(input(world.buffers(), buffer.as_slice(), text)),
         Command::Sync {
             buffers,
@@ -291,12 +391,12 @@ pub fn serve(
     out: &mut BytesMut,
     client: &mut Client,
     world: &World,
-    options: &Options,
+    context: RequestContext<'_>,
     request: Request,
 ) -> Result<Outcome, NoMemory>
     requires { RequestIsUtf8 request }
     ensures ok { IfOk result (λ outcome. GivesAnswer out.old.items out.new.items outcome client.new
-        (reply_of world.now options.now client.old request)) }
+        (reply_of world.now (context_seen context.entry) client.old request)) }
     ensures err { OnErr result (out.new.items ≡ out.old.items) }
     ensures still { OnErr result (client.new ≡ client.old) }
 {
@@ -305,5 +405,5 @@ pub fn serve(
         return Ok(Outcome::Leave(Cause::LoginFailed));
     }
     let Request { id, command } = request;
-    serve_command(alloc, out, client, world, options, id.as_slice(), command)
+    serve_command(alloc, out, client, world, context, id.as_slice(), command)
 }

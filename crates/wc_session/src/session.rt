@@ -6,6 +6,7 @@ ghost use Rattle.wc_relaycmd.specs.Utf8.{RequestIsUtf8};
 ghost use Rattle.wc_session.specs.Known.{new_session};
 ghost use Rattle.wc_session.specs.Event.{with_event};
 ghost use Rattle.wc_session.specs.Reply.{dump_asked, reply_of};
+ghost use Rattle.wc_session.specs.RequestContext.{context_seen};
 ghost use Rattle.wc_session.specs.Sending.{Sends, reply};
 ghost use Rattle.wc_session.specs.Served.{OnServed, OnNoMemory, AnswersRequest};
 ghost use Rattle.wc_session.specs.Sync.{follows, after_event};
@@ -13,12 +14,12 @@ ghost use Rattle.wc_session.specs.Sync.{follows, after_event};
 use crate::buffer_event::BufferEvent;
 use crate::client::Client;
 use crate::outcome::Outcome;
+use crate::request_context::RequestContext;
 use crate::served::serve;
 use bytes::BytesMut;
 use std::alloc::Global;
 use std::marker::Model;
 use wc_model::EventKind;
-use wc_options::Options;
 use wc_relaycmd::Request;
 use wc_text::{Handle, LinkId, NoMemory};
 use wc_world::World;
@@ -50,8 +51,8 @@ impl Session {
         })
     }
 
-    /// Serves a request in WeeChat's relay protocol, in this world and where these are the options.
-    /// The reply is put after the unsent bytes.
+    /// Serves a request in WeeChat's relay protocol, from this world and what stands beside it. The
+    /// reply is put after the unsent bytes.
     ///
     /// `Leave` where the client asked to quit, its login was refused, or it asked for something
     /// else before its login.
@@ -60,12 +61,12 @@ impl Session {
         &mut self,
         alloc: Global,
         world: &World,
-        options: &Options,
+        context: RequestContext<'_>,
         request: Request,
     ) -> Outcome
         requires { RequestIsUtf8 request }
         ensures answered { OnServed result (AnswersRequest self.old self.new result
-            (reply_of world.now options.now self.old.client request)) }
+            (reply_of world.now (context_seen context.entry) self.old.client request)) }
         ensures refused { OnNoMemory result (self.new ≡ self.old) }
 
         // A client that is logged in gets each dump whole, where a message may be that long: a dump
@@ -80,7 +81,7 @@ impl Session {
             &mut self.unsent,
             &mut self.client,
             world,
-            options,
+            context,
             request,
         ) else {
             return Outcome::NoMemory;

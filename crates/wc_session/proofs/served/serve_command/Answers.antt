@@ -12,3 +12,7 @@ give_infolist-requires-clause-name c = (rw c.in-Infolist.is at c.requires.comman
 pub give_pong-requires : goal.give_pong-requires
 unfolding CommandUtf8
 give_pong-requires c = rw c.in-Ping.is at c.requires.command
+
+pub give_completion-requires-clause-text : goal.give_completion-requires-clause-text
+unfolding CommandUtf8
+give_completion-requires-clause-text c = (rw c.in-Completion.is at c.requires.command).1

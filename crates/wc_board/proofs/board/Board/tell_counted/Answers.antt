@@ -8,3 +8,6 @@ pub returns-clause-none : goal.returns-clause-none
 returns-clause-none g c = λ none.
     let parts = parts_of c.change_world.new.world c.in_ok-notice.notice in
     c.tell_notice-to_all.ensures.none (ap (λ (board : BoardView). heard_number board.connections parts) c.self.view_is ∙ none)
+
+pub returns-clause-touched : goal.returns-clause-touched
+returns-clause-touched g c = rw (← c.self.view_is) c.in_ok-notice.ensures.touched

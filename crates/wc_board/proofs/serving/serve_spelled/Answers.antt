@@ -1,7 +1,7 @@
 use Rattle.std.proofs.Common.{◌∙◌}
 use Rattle.wc_board.proofs.EventLemmas.{all_heard, served_heard}
 use Rattle.wc_board.proofs.PartLemmas.{part_starved}
-use Rattle.wc_board.proofs.telling.serve_spelled.Goals as goal
+use Rattle.wc_board.proofs.serving.serve_spelled.Goals as goal
 
 pub returns-in-Ok-clause-told : goal.returns-in-Ok-clause-told
 returns-in-Ok-clause-told c = λ told w part is. c.serve_all.ensures.told told ∙ all_heard _ w part c.args.clients.now (rw c.in-Ok.is at is)
