@@ -11,13 +11,13 @@ use Rattle.wc_text.proofs.WordsLaws.{words_of_utf8}
 use Rattle.wc_ircmsg.specs.Utf8.{AreUtf8Texts}
 use Rattle.wc_ircmsg.specs.Written.{ends_lines, is_one_line, are_words, needs_colon}
 use Rattle.wc_irc.specs.CommandActs.{reason_params}
-use Rattle.wc_irc.specs.CommandSeen.{IsLine, IsLead, IsReady, IsReadyIn}
+use Rattle.wc_irc.specs.CommandSeen.{IsLine, IsLead, AreReadyWords, IsReady, IsReadyIn}
 use Rattle.wc_irc_texts.specs.Pieces.{is_bare}
 use Rattle.wc_irc_words.specs.declared.command_word.CommandWord.{CommandWord}
 use Rattle.wc_irc_words.specs.declared.command_word.CommandWord.TheVariants as words
 use Rattle.wc_irc_words.specs.TypedSeen.{asked_with, word_named}
 use Rattle.wc_irc_words.specs.Typed.{ServerCommand, DeletesServer, Connects, Disconnects, Joins, Says, Notices, Does, Renames, SetsTopic, Kicks, SetsModes, AsksNames, Quotes, Talks, Wrong}
-use Rattle.wc_irc_words.specs.Typed.{without_words, one_word, some_text, is_target, query_command, query_with, target_and_text, kick_command, are_mode_words, ends_at_colon, mode_command, tls_words, adds_with, server_add, server_command, disconnect_command, command_of, slash_command, asked_of}
+use Rattle.wc_irc_words.specs.Typed.{without_words, one_word, some_text, is_target, join_command, query_command, query_with, target_and_text, kick_command, are_mode_words, ends_at_colon, mode_command, tls_words, adds_with, server_add, server_command, disconnect_command, command_of, slash_command, asked_of}
 use Rattle.wc_irc.proofs.LineTextLemmas.{line_word, line_rest, line_tail}
 use Rattle.wc_irc_texts.proofs.PieceLemmas.{bare_word, bare_line, no_colon}
 use Rattle.wc_irc_words.proofs.TypedLemmas.{asked_by, command_named}
@@ -31,7 +31,7 @@ lead_from (b ∷ word) bare sent =
     let other : (b == 58) ≡ false = not-true (b == 58) sent in
     (bare_line (b ∷ word) bare, not-true (needs_colon (b ∷ word)) (no_colon b word other bare))
 
-word_lead : (text : List ℕ) → IsLine text → is_target (word_of text) ≡ true → IsLead (word_of text)
+pub word_lead : (text : List ℕ) → IsLine text → is_target (word_of text) ≡ true → IsLead (word_of text)
 word_lead text line sent = lead_from (word_of text) (bare_word text line.one) sent
 
 -- the words between blanks
@@ -126,24 +126,34 @@ texts_from : (texts : List (List ℕ)) → All IsUtf8 texts → AreUtf8Texts tex
 texts_from [] all = tt
 texts_from (text ∷ texts) all = (all 0 text (omega arith), texts_from texts (λ i d inside. all (suc i) d (omega arith)))
 
+pub mode_words_ready : (text : List ℕ) → IsLine text → are_mode_words (words_of text) ≡ true → AreReadyWords (words_of text)
+mode_words_ready text line e =
+    let some = and_parts (nat_lt 0 (length (words_of text))) (nat_le (length (words_of text)) 15 && ends_at_colon (words_of text)) e in
+    let parts = and_parts (nat_le (length (words_of text)) 15) (ends_at_colon (words_of text)) some.1 in
+    let bare = bare_words text line.one in
+    (few (length (words_of text)) parts.0, words_sent (words_of text) bare parts.1, words_in_line (words_of text) bare, texts_from (words_of text) (words_of_utf8 text line.utf8))
+  where
+    few : (n : ℕ) → nat_le n 15 ≡ true → n ≤ 15
+    few n e = grind (arith, nat_tests)
+
 mode_ready : (text : List ℕ) → IsLine text → IsReady (mode_command text)
 mode_ready text line = by (are_mode_words (words_of text)) refl where
-  few : (n : ℕ) → nat_le n 15 ≡ true → n ≤ 15
-  few n e = grind (arith, nat_tests)
-
   by : (t : Bool) → are_mode_words (words_of text) ≡ t → IsReady (cond t (SetsModes (words_of text)) (Wrong (codes "mode")))
-  by true e =
-      let some = and_parts (nat_lt 0 (length (words_of text))) (nat_le (length (words_of text)) 15 && ends_at_colon (words_of text)) e in
-      let parts = and_parts (nat_le (length (words_of text)) 15) (ends_at_colon (words_of text)) some.1 in
-      let bare = bare_words text line.one in
-      (few (length (words_of text)) parts.0, words_sent (words_of text) bare parts.1, words_in_line (words_of text) bare, texts_from (words_of text) (words_of_utf8 text line.utf8))
+  by true e = mode_words_ready text line e
   by false e = tt
+
+join_ready : (text : List ℕ) → IsLine text → IsReady (join_command text)
+join_ready text line = by (are_mode_words (words_of text)) (not (is_filled (rest_of (rest_of text)))) refl where
+  by : (t u : Bool) → are_mode_words (words_of text) ≡ t → IsReady (cond (t && u) (Joins text) (Wrong (codes "join")))
+  by true true e = mode_words_ready text line e
+  by true false e = tt
+  by false u e = tt
 
 query_ready : (text : List ℕ) → IsLine text → IsReady (query_command text)
 query_ready text line = by (is_target (word_of text)) refl (rest_of text) (line_rest text line) where
   by : (t : Bool) → is_target (word_of text) ≡ t → (said : List ℕ) → IsLine said → IsReady (cond t (query_with (word_of text) said) (Wrong (codes "query")))
   by true e [] is = (line_word text line).utf8
-  by true e (b ∷ said) is = (word_lead text line e, (line_word text line).utf8, is)
+  by true e (b ∷ said) is = record { lead = word_lead text line e; utf8 = (line_word text line).utf8; line = is }
   by false e said is = tt
 
 -- ---- servers
@@ -172,10 +182,10 @@ disconnect_ready (b ∷ text) line = one_ready (codes "disconnect") (λ name. Di
 -- ---- commands
 
 word_ready : (word : CommandWord) (text : List ℕ) → IsLine text → IsReady (asked_with word text)
-word_ready words.Join text line = one_ready (codes "join") (λ c. Joins c) text line (λ word is. is)
+word_ready words.Join text line = join_ready text line
 word_ready words.Part text line = line
-word_ready words.Msg text line = pair_ready (codes "msg") (λ t said. Says t said) text line (λ target said lead word is. (lead, word.utf8, is))
-word_ready words.Notice text line = pair_ready (codes "notice") (λ t said. Notices t said) text line (λ target said lead word is. (lead, word.utf8, is))
+word_ready words.Msg text line = pair_ready (codes "msg") (λ t said. Says t said) text line (λ target said lead word is. record { lead = lead; utf8 = word.utf8; line = is })
+word_ready words.Notice text line = pair_ready (codes "notice") (λ t said. Notices t said) text line (λ target said lead word is. record { lead = lead; utf8 = word.utf8; line = is })
 word_ready words.Query text line = query_ready text line
 word_ready words.Me text line = some_ready (codes "me") (λ deed. Does deed) text line
 word_ready words.Nick text line = one_ready (codes "nick") (λ n. Renames n) text line (λ word is. is)
@@ -187,6 +197,7 @@ word_ready words.Quote text line = some_ready (codes "quote") (λ quoted. Quotes
 word_ready words.Server text line = server_ready text line
 word_ready words.Connect text line = one_ready (codes "connect") (λ n. Connects n) text line (λ word is. tt)
 word_ready words.Disconnect text line = disconnect_ready text line
+word_ready (words.Everyday word) text line = line
 
 found_ready : (found : Option CommandWord) (text : List ℕ) → IsLine text → IsReadyIn (asked_by found text)
 found_ready None text line = tt

@@ -16,6 +16,7 @@ use Rattle.wc_irc_texts.specs.Features.{after_tokens}
 use Rattle.wc_irc.specs.ModeActs.{with_modes_of}
 use Rattle.wc_irc.specs.NameActs.{with_names, seats_in}
 use Rattle.wc_irc_texts.specs.Names.{is_channel, is_same}
+use Rattle.wc_irc_texts.specs.Negotiation.{ended}
 use Rattle.wc_irc_texts.specs.Rows.{param, has_params, kind_named, is_complete, kind_of}
 use Rattle.wc_irc_nicks.specs.Seats.{with_name}
 use Rattle.wc_irc.specs.ServerActs.{after_kind, kind_to, after_server}
@@ -66,7 +67,7 @@ renamed_keeps prefixes old new c = by (may_have prefixes old new c) where
 
 welcomed : (s : ServerState) (nick : List ℕ) → HasChannelNames s → HasChannelNames (after_welcome s nick)
 welcomed s nick are = by s.is_registered where
-  by : (t : Bool) → HasChannelNames (cond t s (record s { nick = own_nick_from s nick; is_registered = true }))
+  by : (t : Bool) → HasChannelNames (cond t s (record s { nick = own_nick_from s nick; is_registered = true; negotiation = ended s.negotiation }))
   by true = are
   by false = are
 

@@ -1,6 +1,6 @@
 -- What a command is for can be done as it stands, and where it is typed.
-use Rattle.std.proofs.Common.{◌≡◌, ℕ, ◌<◌, Bool, true, false, cond, List, [], ◌∷◌, ◌++◌, length, refl, ap, sym, subst, ◌∙◌, arith, Option, Some, None, codes}
-use Rattle.std.specs.Prelude.{◌&&◌, not, option_map, find, bytes_eq}
+use Rattle.std.proofs.Common.{◌≡◌, ℕ, ◌<◌, Bool, true, false, cond, List, [], ◌∷◌, ◌++◌, length, refl, sym, subst, ◌∙◌, arith, Option, Some, None, codes}
+use Rattle.std.specs.Prelude.{◌&&◌, not, nat_le, option_map, find, bytes_eq}
 use Rattle.std.specs.List.{list_all}
 use Rattle.std.specs.Str.{IsUtf8}
 use Rattle.std.proofs.lemmas.Bool.{and_parts, and_from, not-true}
@@ -9,7 +9,6 @@ use Rattle.std.proofs.lemmas.Str.{IsUtf8-append, IsUtf8-nil}
 use Rattle.wc_text.specs.declared.names.Handle.{Handle}
 use Rattle.wc_text.specs.declared.names.Pair.{Pair}
 use Rattle.wc_text.proofs.Utf8Lemmas.{utf8_one, utf8_cons}
-use Rattle.wc_ircmsg.specs.declared.message.Message.{Message}
 use Rattle.wc_ircmsg.specs.Commands.{is_command}
 use Rattle.wc_ircmsg.specs.Utf8.{AreUtf8Texts}
 use Rattle.wc_ircmsg.specs.Written.{IsWritable, ends_lines, is_one_line, are_words, needs_colon}
@@ -18,15 +17,20 @@ use Rattle.wc_buffers.specs.Calls.{EntryGroups, entry_of, vars_at}
 use Rattle.wc_buffers.specs.Kept.{AreBuffers, AreVars, IsBuffer}
 use Rattle.wc_buffers.specs.Vars.{value_of}
 use Rattle.wc_irc.specs.Autojoin.{message}
-use Rattle.wc_irc.specs.CommandActs.{Place, OnChannel, OnPrivate, Elsewhere, is_kind, place_of, place_in, channel_in, target_in, takes_text, Errand, Refuses, Sends, Speaks, may_lead, on_channel, to_target, action, talk_at, reason_params, errand_of}
-use Rattle.wc_irc.specs.CommandSeen.{IsLine, IsLead, IsFit, IsFitIn, IsReady, IsReadyIn, IsUtf8In, IsPlaceUtf8}
-use Rattle.wc_irc_words.specs.Typed.{ServerCommand, AddsServer, DeletesServer, Connects, Disconnects, Joins, Parts, Says, Notices, Queries, Does, Renames, SetsTopic, Kicks, SetsModes, AsksNames, Quotes, Talks, Wrong}
+use Rattle.wc_irc.specs.CommandActs.{Place, OnChannel, OnPrivate, Elsewhere, is_kind, place_of, place_in, channel_in, target_in, takes_text, Errand, Refuses, Sends, Speaks, may_lead, on_channel, to_target, talk_at, reason_params, wrong_arguments, is_joined, part_errand, new_topic, is_of_channel, first_word, own_modes, mode_errand, errand_of}
+use Rattle.wc_irc.specs.Servers.{ServerState}
+use Rattle.wc_irc.proofs.AskedLemmas.{word_lead}
+use Rattle.wc_irc.proofs.LineTextLemmas.{line_word, line_rest}
+use Rattle.wc_text.specs.Splits.{word_of, rest_of}
+use Rattle.wc_text.specs.Words.{words_of}
+use Rattle.std.proofs.lemmas.Bool.Decides.{nat_tests}
+use Rattle.wc_irc.specs.CommandSeen.{IsLine, IsLead, IsFit, IsFitIn, AreReadyWords, IsReady, IsReadyIn, IsUtf8In, IsPlaceUtf8}
+use Rattle.wc_irc_words.specs.Typed.{ServerCommand, AddsServer, DeletesServer, Connects, Disconnects, Joins, Parts, Says, Notices, Queries, Does, Renames, SetsTopic, Kicks, SetsModes, AsksNames, Quotes, Talks, Wrong, Bids, is_target}
+use Rattle.wc_irc.specs.LongTexts.{action}
+use Rattle.wc_irc.proofs.FormLemmas.{IsSent, reason_fit, everyday_fit}
+use Rattle.wc_irc.proofs.LongLemmas.{action_line}
 
 -- ---- messages
-
--- a message that can be written, and is read back
-abbrev IsSent : Message → Type 0
-IsSent m = IsWritable m × AreUtf8Texts m.params
 
 -- parameters that can come after a channel
 record CanFollow (params : List (List ℕ)) : Type 0 where
@@ -44,17 +48,6 @@ one_param command param known line = (
     one_line = and_from (is_one_line param) true line.one refl;
   },
   (line.utf8, tt),
-)
-
-two_params : (command first last : List ℕ) → is_command command ≡ true → IsLead first → IsUtf8 first → IsLine last → IsSent (message command (first ∷ last ∷ []))
-two_params command first last known lead utf8 line = (
-  record {
-    command = known;
-    few = omega arith;
-    words = and_from (not (needs_colon first)) true (ap not lead.1) refl;
-    one_line = and_from (is_one_line first) (is_one_line last && true) lead.0 (and_from (is_one_line last) true line.one refl);
-  },
-  (utf8, (line.utf8, tt)),
 )
 
 led : (command channel : List ℕ) (params : List (List ℕ)) → is_command command ≡ true → CanFollow params → IsUtf8 channel → may_lead channel params ≡ true → IsSent (message command (channel ∷ params))
@@ -83,8 +76,7 @@ target_fit text (Some target) line utf8 = by (may_lead target (text ∷ [])) ref
   by : (t : Bool) → may_lead target (text ∷ []) ≡ t → IsFit (cond t (Speaks target text) (to_target text None))
   by true e =
       let both = and_parts (is_one_line target) (not (needs_colon target)) e in
-      let sent = two_params (codes "PRIVMSG") target text refl (both.0, not-true (needs_colon target) both.1) utf8 line in
-      (sent.0, utf8, line.utf8)
+      record { lead = (both.0, not-true (needs_colon target) both.1); utf8 = utf8; line = line }
   by false e = tt
 
 -- ---- commands
@@ -108,25 +100,6 @@ kick_follows nick (b ∷ reason) words line other = record {
   utf8 = (line.utf8, (other.utf8, tt));
 }
 
--- the bytes before the deed
-action_front : IsUtf8 (1 ∷ codes "ACTION ")
-action_front = utf8_cons 1 (codes "ACTION ") (omega arith) (
-    utf8_cons 65 (codes "CTION ") (omega arith) (
-    utf8_cons 67 (codes "TION ") (omega arith) (
-    utf8_cons 84 (codes "ION ") (omega arith) (
-    utf8_cons 73 (codes "ON ") (omega arith) (
-    utf8_cons 79 (codes "N ") (omega arith) (
-    utf8_cons 78 (codes " ") (omega arith) (
-    utf8_cons 32 [] (omega arith) IsUtf8-nil)))))))
-
-action_line : (deed : List ℕ) → IsLine deed → IsLine (action deed)
-action_line deed line =
-    let p : ℕ → Bool = λ b. not (ends_lines b) in
-    record {
-      one = list_all-append p deed (1 ∷ []) ∙ and_from (is_one_line deed) true line.one refl;
-      utf8 = IsUtf8-append (1 ∷ codes "ACTION ") (deed ++ 1 ∷ []) action_front (IsUtf8-append deed (1 ∷ []) line.utf8 (utf8_one 1 (omega arith)));
-    }
-
 channel_text : (place : Place) → IsPlaceUtf8 place → IsUtf8In (channel_in place)
 channel_text (OnChannel channel) utf8 = utf8
 channel_text (OnPrivate nick) utf8 = tt
@@ -143,29 +116,61 @@ talk_fit text place line utf8 = by (takes_text place) where
   by true = target_fit text (target_in place) line (target_text place utf8)
   by false = tt
 
-says_fit : (target text : List ℕ) → IsLead target → IsUtf8 target → IsLine text → IsFit (Speaks target text)
-says_fit target text lead utf8 line = let sent = two_params (codes "PRIVMSG") target text refl lead utf8 line in (sent.0, utf8, line.utf8)
+parts_fit : (link : Option ServerState) (place : Place) (text : List ℕ) → IsPlaceUtf8 place → IsLine text → IsFit (part_errand link place text)
+parts_fit link place text utf8 line = by (is_target (word_of text)) (is_joined link (word_of text)) refl where
+  here : List ℕ → Errand
+  here reason = on_channel (codes "PART") (reason_params reason) (channel_in place)
 
-pub errand_fit : (place : Place) (command : ServerCommand) → IsPlaceUtf8 place → IsReady command → IsFitIn (errand_of place command)
+  by : (t u : Bool) → is_target (word_of text) ≡ t → IsFit (cond (t && u) (Sends (message (codes "PART") (word_of text ∷ reason_params (rest_of text)))) (here text))
+  by true true e = reason_fit (codes "PART") (word_of text) (rest_of text) refl (word_lead text line e) (line_word text line).utf8 (line_rest text line)
+  by true false e = channel_fit (codes "PART") (reason_params text) (channel_in place) refl (reason_follows text line) (channel_text place utf8)
+  by false u e = channel_fit (codes "PART") (reason_params text) (channel_in place) refl (reason_follows text line) (channel_text place utf8)
+
+topic_line : (topic : List ℕ) → IsLine topic → IsLine (new_topic topic)
+topic_line topic line = by (bytes_eq topic (codes "-delete")) where
+  by : (t : Bool) → IsLine (cond t [] topic)
+  by true = record { one = refl; utf8 = IsUtf8-nil }
+  by false = line
+
+words_fit : (command : List ℕ) (words : List (List ℕ)) → is_command command ≡ true → AreReadyWords words → IsSent (message command words)
+words_fit command words known ready = (record { command = known; few = ready.0; words = ready.1; one_line = ready.2 }, ready.3)
+
+own_modes_fit : (place : Place) (words : List (List ℕ)) → IsPlaceUtf8 place → AreReadyWords words → IsFit (own_modes place words)
+own_modes_fit place words utf8 ready = by (nat_le (length words) 14) refl where
+  fewer : (n : ℕ) → nat_le n 14 ≡ true → n < 15
+  fewer n e = grind (arith, nat_tests)
+
+  by : (t : Bool) → nat_le (length words) 14 ≡ t → IsFit (cond t (on_channel (codes "MODE") words (channel_in place)) (wrong_arguments (codes "mode")))
+  by true e = channel_fit (codes "MODE") words (channel_in place) refl (record { few = fewer (length words) e; words = ready.1; one_line = ready.2; utf8 = ready.3 }) (channel_text place utf8)
+  by false e = tt
+
+modes_fit : (place : Place) (words : List (List ℕ)) → IsPlaceUtf8 place → AreReadyWords words → IsFit (mode_errand place words)
+modes_fit place words utf8 ready = by (is_of_channel place (first_word words)) where
+  by : (t : Bool) → IsFit (cond t (own_modes place words) (Sends (message (codes "MODE") words)))
+  by true = own_modes_fit place words utf8 ready
+  by false = words_fit (codes "MODE") words refl ready
+
+pub errand_fit : (link : Option ServerState) (place : Place) (command : ServerCommand) → IsPlaceUtf8 place → IsReady command → IsFitIn (errand_of link place command)
 unfolding errand_of
-errand_fit place (AddsServer name address tls) utf8 ready = tt
-errand_fit place (DeletesServer name) utf8 ready = tt
-errand_fit place (Connects name) utf8 ready = tt
-errand_fit place (Disconnects name) utf8 ready = tt
-errand_fit place (Joins channel) utf8 ready = one_param (codes "JOIN") channel refl ready
-errand_fit place (Parts reason) utf8 ready = channel_fit (codes "PART") (reason_params reason) (channel_in place) refl (reason_follows reason ready) (channel_text place utf8)
-errand_fit place (Says target text) utf8 ready = says_fit target text ready.0 ready.1 ready.2
-errand_fit place (Notices target text) utf8 ready = two_params (codes "NOTICE") target text refl ready.0 ready.1 ready.2
-errand_fit place (Queries nick) utf8 ready = ready
-errand_fit place (Does deed) utf8 ready = target_fit (action deed) (target_in place) (action_line deed ready) (target_text place utf8)
-errand_fit place (Renames nick) utf8 ready = one_param (codes "NICK") nick refl ready
-errand_fit place (SetsTopic topic) utf8 ready = channel_fit (codes "TOPIC") (topic ∷ []) (channel_in place) refl (last_param topic ready) (channel_text place utf8)
-errand_fit place (Kicks nick reason) utf8 ready = channel_fit (codes "KICK") (nick ∷ reason_params reason) (channel_in place) refl (kick_follows nick reason ready.0 ready.1 ready.2) (channel_text place utf8)
-errand_fit place (SetsModes words) utf8 ready = (record { command = refl; few = ready.0; words = ready.1; one_line = ready.2 }, ready.3)
-errand_fit place AsksNames utf8 ready = channel_fit (codes "NAMES") [] (channel_in place) refl no_params (channel_text place utf8)
-errand_fit place (Quotes line) utf8 ready = ready.one
-errand_fit place (Talks text) utf8 ready = talk_fit text place ready utf8
-errand_fit place (Wrong name) utf8 ready = tt
+errand_fit link place (AddsServer name address tls) utf8 ready = tt
+errand_fit link place (DeletesServer name) utf8 ready = tt
+errand_fit link place (Connects name) utf8 ready = tt
+errand_fit link place (Disconnects name) utf8 ready = tt
+errand_fit link place (Joins text) utf8 ready = words_fit (codes "JOIN") (words_of text) refl ready
+errand_fit link place (Parts text) utf8 ready = parts_fit link place text utf8 ready
+errand_fit link place (Says target text) utf8 ready = ready
+errand_fit link place (Notices target text) utf8 ready = ready
+errand_fit link place (Queries nick) utf8 ready = ready
+errand_fit link place (Does deed) utf8 ready = target_fit (action deed) (target_in place) (action_line deed ready) (target_text place utf8)
+errand_fit link place (Renames nick) utf8 ready = one_param (codes "NICK") nick refl ready
+errand_fit link place (SetsTopic topic) utf8 ready = channel_fit (codes "TOPIC") (new_topic topic ∷ []) (channel_in place) refl (last_param (new_topic topic) (topic_line topic ready)) (channel_text place utf8)
+errand_fit link place (Kicks nick reason) utf8 ready = channel_fit (codes "KICK") (nick ∷ reason_params reason) (channel_in place) refl (kick_follows nick reason ready.0 ready.1 ready.2) (channel_text place utf8)
+errand_fit link place (SetsModes words) utf8 ready = modes_fit place words utf8 ready
+errand_fit link place AsksNames utf8 ready = channel_fit (codes "NAMES") [] (channel_in place) refl no_params (channel_text place utf8)
+errand_fit link place (Bids word text) utf8 ready = everyday_fit place word text (channel_text place utf8) ready
+errand_fit link place (Quotes line) utf8 ready = ready.one
+errand_fit link place (Talks text) utf8 ready = talk_fit text place ready utf8
+errand_fit link place (Wrong name) utf8 ready = tt
 
 -- ---- places
 
@@ -193,10 +198,10 @@ place_utf8 buffer groups are = text_in (entry_of buffer groups) (are.fit buffer)
 
 -- ---- an errand that was read
 
-pub read_fit : (place : Place) (asked : Option ServerCommand) (command : ServerCommand) (errand : Errand) → IsPlaceUtf8 place → IsReadyIn asked → asked ≡ Some command
-    → errand_of place command ≡ Some errand → IsFit errand
-read_fit place asked command errand utf8 ready is made =
-    subst IsFitIn made (errand_fit place command utf8 (subst IsReadyIn is ready))
+pub read_fit : (link : Option ServerState) (place : Place) (asked : Option ServerCommand) (command : ServerCommand) (errand : Errand) → IsPlaceUtf8 place → IsReadyIn asked → asked ≡ Some command
+    → errand_of link place command ≡ Some errand → IsFit errand
+read_fit link place asked command errand utf8 ready is made =
+    subst IsFitIn made (errand_fit link place command utf8 (subst IsReadyIn is ready))
 
 -- ---- the same message from other texts
 

@@ -16,6 +16,11 @@ pub mod ComerLemmas
 pub mod UserLemmas
 pub mod LineTextLemmas
 pub mod AskedLemmas
+pub mod FormLemmas
+pub mod LongLemmas
+pub mod MaskLemmas
 pub mod ErrandLemmas
+pub mod SentLemmas
+pub mod LoginLemmas
 pub mod ServerNameLemmas
 pub mod CommandLawLemmas

@@ -26,7 +26,7 @@ last_is (b ∷ c ∷ text) inner some = by (before_last (c ∷ text)) refl some 
   by None e some ih = absurd (cc)
   by (Some l) e some ih = let front : b ∷ l ≡ inner = cc in ap (λ (k : List ℕ). b ∷ k) (ih l e) ∙ ap (λ (k : List ℕ). k ++ 1 ∷ []) front
 
-quoted_is : (text inner : List ℕ) → quoted text ≡ Some inner → text ≡ 1 ∷ (inner ++ 1 ∷ [])
+pub quoted_is : (text inner : List ℕ) → quoted text ≡ Some inner → text ≡ 1 ∷ (inner ++ 1 ∷ [])
 quoted_is [] inner some = absurd (cc)
 quoted_is (b ∷ text) inner some = by (b == 1) refl some where
   by : (t : Bool) → (b == 1) ≡ t → cond t (before_last text) None ≡ Some inner → b ∷ text ≡ 1 ∷ (inner ++ 1 ∷ [])

@@ -8,7 +8,8 @@ use Rattle.wc_irc.specs.declared.act.Act.{Act}
 use Rattle.wc_irc.specs.declared.act.Act.TheVariants as act
 use Rattle.wc_irc.specs.Autojoin.{message}
 use Rattle.wc_irc.specs.ChannelStates.{channel_at}
-use Rattle.wc_irc.specs.CommandActs.{sent_message, channel_in, place_in, linked_in}
+use Rattle.wc_irc.specs.CommandActs.{channel_in, place_in, linked_in}
+use Rattle.wc_irc.specs.SentLines.{sent_message}
 use Rattle.wc_irc.specs.Servers.{ServerState}
 use Rattle.wc_irc.specs.TalkActs.{sent}
 

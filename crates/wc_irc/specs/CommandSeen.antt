@@ -1,10 +1,11 @@
 -- What a command comes to, as the code has it, and which texts can be sent.
 use Rattle.std.specs.Prelude.{◌≡◌, ◌≤◌, ℕ, true, false, List, ◌∷◌, length, Option}
-use Rattle.std.specs.Prelude.{Some, None}
+use Rattle.std.specs.Prelude.{Some, None, [], Bool, All, if◌then◌else◌}
 use Rattle.std.specs.Borrow.{Bor}
 use Rattle.std.specs.List.{list_all}
 use Rattle.std.specs.Option.{option_copied}
 use Rattle.std.specs.Str.{IsUtf8}
+use Rattle.wc_text.specs.Words.{words_of}
 use Rattle.wc_ircmsg.specs.Utf8.{AreUtf8Texts}
 use Rattle.wc_ircmsg.specs.Written.{IsWritable, are_words, needs_colon, is_one_line}
 use Rattle.wc_irc.specs.declared.errand.Errand.{Errand as Lent}
@@ -14,12 +15,14 @@ use Rattle.wc_irc.specs.declared.place.Place.TheVariants as places
 use Rattle.wc_irc.specs.declared.state.State.{State}
 use Rattle.wc_irc.specs.Autojoin.{message}
 use Rattle.wc_irc.specs.CommandActs.{Place, OnChannel, OnPrivate, Elsewhere, Errand, Refuses}
-use Rattle.wc_irc.specs.CommandActs.{Sends, Speaks, SendsLine, Opens, speech, reason_params}
+use Rattle.wc_irc.specs.CommandActs.{Sends, Speaks, Notifies, SendsLine, Opens, SendsBoth}
+use Rattle.wc_irc.specs.CommandActs.{reason_params, may_lead}
+use Rattle.wc_irc.specs.LongTexts.{text_to, wrapped}
 use Rattle.wc_irc.specs.Servers.{ServerState}
 use Rattle.wc_irc.specs.ServersSeen.{seen}
 use Rattle.wc_irc_words.specs.Typed.{ServerCommand, AddsServer, DeletesServer, Connects, Disconnects}
 use Rattle.wc_irc_words.specs.Typed.{Joins, Parts, Says, Notices, Queries, Does, Renames, SetsTopic}
-use Rattle.wc_irc_words.specs.Typed.{Kicks, SetsModes, AsksNames, Quotes, Talks, Wrong}
+use Rattle.wc_irc_words.specs.Typed.{Kicks, SetsModes, AsksNames, Quotes, Talks, Wrong, Bids}
 
 abbrev pub place_seen : LentPlace → Place
 place_seen (places.Channel channel) = OnChannel (option_copied channel)
@@ -30,25 +33,20 @@ abbrev pub errand_seen : Lent → Errand
 errand_seen (lent.Refuse text) = Refuses text
 errand_seen (lent.Send command params) = Sends (message command.now params)
 errand_seen (lent.Speak target text) = Speaks target.now text
-errand_seen (lent.Line line) = SendsLine line.now
+errand_seen (lent.Notify target text) = Notifies target.now text.now
+errand_seen (lent.Line line) = SendsLine line
+errand_seen (lent.SendBoth first params second others) =
+    SendsBoth (message first.now params) (message second.now others)
 errand_seen (lent.Open nick) = Opens nick.now
+
+-- a channel that can be sent before others
+abbrev pub leading_in : Option (List ℕ) → Option (List ℕ)
+leading_in None = None
+leading_in (Some channel) = if may_lead channel ([] ∷ []) then Some channel else None
 
 abbrev pub link_seen : Option (Bor State) → Option ServerState
 link_seen None = None
 link_seen (Some state) = Some (seen state.now)
-
--- ---- what can be done as it stands: lines that can be written, and names of buffers that are text
-
-abbrev pub IsFit : Errand → Type 0
-IsFit (Refuses text) = Unit {0}
-IsFit (Sends m) = IsWritable m × AreUtf8Texts m.params
-IsFit (Speaks target text) = IsWritable (speech target text) × IsUtf8 target × IsUtf8 text
-IsFit (SendsLine line) = is_one_line line ≡ true
-IsFit (Opens nick) = IsUtf8 nick
-
-abbrev pub IsFitIn : Option Errand → Type 0
-IsFitIn None = Unit {0}
-IsFitIn (Some errand) = IsFit errand
 
 -- ---- what is read of one line of text
 
@@ -61,24 +59,58 @@ pub record IsLine (text : List ℕ) : Type 0 where
 abbrev pub IsLead : List ℕ → Type 0
 IsLead word = (is_one_line word ≡ true) × (needs_colon word ≡ false)
 
+-- a text that can be sent to a target
+pub record IsSendable (target text : List ℕ) : Type 0 where
+  pub lead : IsLead target
+  pub utf8 : IsUtf8 target
+  pub line : IsLine text
+
+-- parts of a text that can be sent to a target one by one
+abbrev pub AreSendable : List ℕ → List ℕ → Bool → List (List ℕ) → Type 0
+AreSendable command target does texts =
+    All (λ text. IsWritable (text_to command target (wrapped does text))) texts
+
+-- ---- what can be done as it stands: lines that can be written, and names of buffers that are text
+
+abbrev pub IsFit : Errand → Type 0
+IsFit (Refuses text) = Unit {0}
+IsFit (Sends m) = IsWritable m × AreUtf8Texts m.params
+IsFit (Speaks target text) = IsSendable target text
+IsFit (Notifies target text) = IsSendable target text
+IsFit (SendsLine line) = is_one_line line ≡ true
+IsFit (Opens nick) = IsUtf8 nick
+IsFit (SendsBoth m n) = (IsWritable m × AreUtf8Texts m.params)
+    × (IsWritable n × AreUtf8Texts n.params)
+
+abbrev pub IsFitIn : Option Errand → Type 0
+IsFitIn None = Unit {0}
+IsFitIn (Some errand) = IsFit errand
+
+-- ---- commands that were read
+
+-- words that can be the parameters of a line
+abbrev pub AreReadyWords : List (List ℕ) → Type 0
+AreReadyWords words = (length words ≤ 15) × (are_words words ≡ true)
+    × (list_all is_one_line words ≡ true) × AreUtf8Texts words
+
 abbrev pub IsReady : ServerCommand → Type 0
 IsReady (AddsServer name address tls) = Unit {0}
 IsReady (DeletesServer name) = Unit {0}
 IsReady (Connects name) = Unit {0}
 IsReady (Disconnects name) = Unit {0}
-IsReady (Joins channel) = IsLine channel
-IsReady (Parts reason) = IsLine reason
-IsReady (Says target text) = IsLead target × IsUtf8 target × IsLine text
-IsReady (Notices target text) = IsLead target × IsUtf8 target × IsLine text
+IsReady (Joins text) = AreReadyWords (words_of text)
+IsReady (Parts text) = IsLine text
+IsReady (Says target text) = IsSendable target text
+IsReady (Notices target text) = IsSendable target text
 IsReady (Queries nick) = IsUtf8 nick
 IsReady (Does deed) = IsLine deed
 IsReady (Renames nick) = IsLine nick
 IsReady (SetsTopic topic) = IsLine topic
 IsReady (Kicks nick reason) = (are_words (nick ∷ reason_params reason) ≡ true)
     × IsLine nick × IsLine reason
-IsReady (SetsModes words) = (length words ≤ 15) × (are_words words ≡ true)
-    × (list_all is_one_line words ≡ true) × AreUtf8Texts words
+IsReady (SetsModes words) = AreReadyWords words
 IsReady AsksNames = Unit {0}
+IsReady (Bids word text) = IsLine text
 IsReady (Quotes line) = IsLine line
 IsReady (Talks text) = IsLine text
 IsReady (Wrong name) = Unit {0}

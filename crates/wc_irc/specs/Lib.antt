@@ -10,6 +10,8 @@ pub mod CommandLaws
 pub mod CommandSeen
 pub mod Lines
 pub mod LinkActs
+pub mod LoginActs
+pub mod LongTexts
 pub mod ModeActs
 pub mod NameActs
 pub mod NamesSeen
@@ -18,6 +20,7 @@ pub mod NickActs
 pub mod OwnSpeech
 pub mod ReadySeen
 pub mod RenameActs
+pub mod SentLines
 pub mod ServerActs
 pub mod ServerOptions
 pub mod Servers

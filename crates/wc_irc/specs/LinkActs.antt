@@ -7,14 +7,17 @@ use Rattle.wc_irc.specs.declared.act.Act.TheVariants as act
 use Rattle.wc_irc.specs.Autojoin.{message, first_word}
 use Rattle.wc_irc.specs.Channels.{Joined}
 use Rattle.wc_irc.specs.Lines.{printed}
+use Rattle.wc_irc.specs.LoginActs.{list_acts}
 use Rattle.wc_irc.specs.NickActs.{emptied}
 use Rattle.wc_irc.specs.Servers.{ServerState}
 use Rattle.wc_irc.specs.TalkActs.{on_found, raised, sent}
 use Rattle.wc_irc.specs.Targets.{found, server_buffer}
+use Rattle.wc_irc_texts.specs.Negotiation.{begun, lost}
 use Rattle.wc_irc_texts.specs.Texts.{in_one_line}
 use Rattle.wc_irc_words.specs.Typed.{is_target}
 
--- ---- the first lines: the password, where there is one, the nick and the user
+-- ---- the first lines: the list of capabilities, where options ask for any, the password, where
+-- there is one, the nick and the user
 
 abbrev pub pass_acts : List ℕ → List Act
 pass_acts [] = []
@@ -34,10 +37,10 @@ abbrev pub user_act : ServerState → Act
 user_act s = act.Send (line_of (message (codes "USER") (user_params s.user s.real_name)))
 
 abbrev pub first_acts : ServerState → List Act
-first_acts s = pass_acts s.password ++ sent (codes "NICK") s.nick ∷ user_act s ∷ []
+first_acts s = list_acts s.negotiation ++ pass_acts s.password ++ sent (codes "NICK") s.nick ∷ user_act s ∷ []
 
 abbrev pub after_connect : ServerState → ServerState
-after_connect s = record s { is_connected = true }
+after_connect s = record s { is_connected = true; negotiation = begun s.negotiation }
 
 -- ---- a loss: the nicks of each channel go, in the order of joining; the line and the signal
 
@@ -53,4 +56,10 @@ loss_acts groups s = flat_map (lost_of groups s) s.channels
     ++ lost_line s ∷ raised (codes "irc_server_disconnected") s ∷ []
 
 abbrev pub after_loss : ServerState → ServerState
-after_loss s = record s { is_connected = false; is_registered = false; channels = [] }
+after_loss s = record s {
+  negotiation = lost s.negotiation;
+  mask = [];
+  is_connected = false;
+  is_registered = false;
+  channels = [];
+}

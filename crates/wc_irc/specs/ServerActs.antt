@@ -1,5 +1,5 @@
 -- What follows of each kind of message, and what the server is after it.
-use Rattle.std.specs.Prelude.{List}
+use Rattle.std.specs.Prelude.{ℕ, List}
 use Rattle.wc_buffers.specs.Calls.{EntryGroups}
 use Rattle.wc_ircmsg.specs.declared.message.Message.{Message}
 use Rattle.wc_irc.specs.declared.act.Act.{Act}
@@ -12,7 +12,9 @@ use Rattle.wc_irc_texts.specs.declared.kind.MessageKind.TheVariants.{Error, Othe
 use Rattle.wc_irc.specs.ChannelActs.{join_acts, part_acts, kick_acts, quit_acts}
 use Rattle.wc_irc.specs.ChannelStates.{after_join, after_leave, quit_by, after_nick}
 use Rattle.wc_irc_texts.specs.Rows.{param, kind_of}
+use Rattle.wc_irc.specs.LoginActs.{login_acts, after_login}
 use Rattle.wc_irc.specs.Servers.{ServerState, after_welcome, after_taken, after_features}
+use Rattle.wc_irc.specs.Servers.{mask_after}
 use Rattle.wc_irc.specs.TitleActs.{topic_acts, topic_reply_acts, names_end_acts, mode_reply_acts}
 use Rattle.wc_irc.specs.SpeechActs.{privmsg_acts}
 use Rattle.wc_irc.specs.RenameActs.{nick_acts}
@@ -40,7 +42,7 @@ acts_of_kind groups s m Privmsg = privmsg_acts groups s m
 acts_of_kind groups s m Notice = notice_acts groups s m
 acts_of_kind groups s m Ping = ping_acts m
 acts_of_kind groups s m Error = error_acts s m
-acts_of_kind groups s m Other = other_acts s m
+acts_of_kind groups s m Other = login_acts s m
 
 unfoldable pub after_kind : ServerState → Message → MessageKind → ServerState
 after_kind s m Welcome = after_welcome s (param 0 m)
@@ -61,7 +63,7 @@ after_kind s m Privmsg = s
 after_kind s m Notice = s
 after_kind s m Ping = s
 after_kind s m Error = s
-after_kind s m Other = s
+after_kind s m Other = after_login s m
 
 abbrev pub kind_to : ServerState → Message → MessageKind
 kind_to s m = kind_of s.features.chan_types s.is_registered m
@@ -69,5 +71,8 @@ kind_to s m = kind_of s.features.chan_types s.is_registered m
 abbrev pub acts_of_server : EntryGroups → ServerState → Message → List Act
 acts_of_server groups s m = acts_of_kind groups s m (kind_to s m)
 
+abbrev pub with_mask : List ℕ → ServerState → ServerState
+with_mask mask s = record s { mask = mask }
+
 abbrev pub after_server : ServerState → Message → ServerState
-after_server s m = after_kind s m (kind_to s m)
+after_server s m = with_mask (mask_after s m) (after_kind s m (kind_to s m))

@@ -7,8 +7,10 @@ use Rattle.wc_options.specs.Address.{address_of}
 use Rattle.wc_options.specs.Options.{OptionsValue, value_of}
 use Rattle.wc_irc.specs.declared.refused.ServerRefused.{ServerRefused}
 use Rattle.wc_irc.specs.declared.refused.ServerRefused.TheVariants.{TlsOn, BadAddress}
+use Rattle.wc_irc_texts.specs.declared.negotiation.Negotiation.{Negotiation}
 use Rattle.wc_irc_texts.specs.Features.{default_features}
 use Rattle.wc_irc_texts.specs.Names.{is_nick}
+use Rattle.wc_irc_texts.specs.Negotiation.{negotiation_of}
 use Rattle.wc_irc_texts.specs.Pieces.{pieces}
 use Rattle.wc_irc.specs.Servers.{ServerState, first_of}
 
@@ -39,6 +41,15 @@ nicks_of value = filter may_be_tried (pieces value)
 abbrev pub server_nicks : OptionsValue → List ℕ → List (List ℕ)
 server_nicks options server = nicks_of (option_of options server (codes "nicks"))
 
+-- ---- SASL, and other capabilities
+
+abbrev pub first_negotiation : OptionsValue → List ℕ → Negotiation
+first_negotiation options server =
+    negotiation_of (option_of options server (codes "sasl_username"))
+    (option_of options server (codes "sasl_password"))
+    (option_of options server (codes "capabilities"))
+    (option_of options server (codes "sasl_fail"))
+
 -- ---- the server
 
 unfoldable pub first_state : OptionsValue → List ℕ → Address → ServerState
@@ -52,6 +63,8 @@ first_state options server address = record {
   nick = first_of (server_nicks options server) (codes "weechat");
   nicks_left = drop 1 (server_nicks options server);
   taken = 0;
+  negotiation = first_negotiation options server;
+  mask = [];
   is_connected = false;
   is_registered = false;
   features = default_features;

@@ -37,7 +37,7 @@ fn acts_of_line(
     let Some(command) = read_server_command(line) else {
         return Ok(None);
     };
-    let Some(errand) = errand_of(alloc, place, command)? else {
+    let Some(errand) = errand_of(alloc, link, place, &command)? else {
         return Ok(None);
     };
     let mut acts = Items::new(alloc);

@@ -1,49 +1,26 @@
-ghost use Rattle.std.specs.Prelude.{◌≡◌, ◌++◌, ◌∷◌, [], codes, IfOk, OnOk};
+ghost use Rattle.std.specs.Prelude.{◌≡◌, ◌++◌, codes, OnOk};
 ghost use Rattle.std.specs.Str.{IsUtf8};
-ghost use Rattle.wc_ircmsg.specs.Written.{IsWritable};
+ghost use Rattle.wc_ircmsg.specs.Written.{IsWritable, line_of};
 ghost use Rattle.wc_irc.specs.Autojoin.{message};
-ghost use Rattle.wc_irc.specs.CommandActs.{refusal, if_linked, sent_message, speech};
-ghost use Rattle.wc_irc.specs.CommandActs.{acts_of_errand};
-ghost use Rattle.wc_irc.specs.CommandSeen.{errand_seen, link_seen, IsFit};
+ghost use Rattle.wc_irc.specs.CommandActs.{if_linked, acts_of_errand};
+ghost use Rattle.wc_irc.specs.CommandSeen.{errand_seen, link_seen, IsFit, IsSendable};
+ghost use Rattle.wc_irc.specs.LongTexts.{speech_acts, notify_acts};
 ghost use Rattle.wc_irc.specs.NewBuffers.{opened};
-ghost use Rattle.wc_irc.specs.OwnSpeech.{own_speech};
+ghost use Rattle.wc_irc.specs.SentLines.{refusal, line_acts, both_acts};
 ghost use Rattle.wc_irc.specs.Targets.{found};
-ghost use Rattle.wc_irc.specs.declared.act.Act.TheVariants as act;
 
 use crate::act::Act;
-use crate::autojoin::line_of;
 use crate::errand::Errand;
-use crate::lines::printed;
+use crate::long_texts::{put_notify, put_speech};
 use crate::new_buffers::put_opened;
-use crate::own_speech::put_own_speech;
+use crate::sent_lines::{message_line, put_both_lines, put_line, put_refusal};
 use crate::state::State;
 use crate::targets::found;
 use std::alloc::Global;
 use wc_buffers::Buffers;
-use wc_text::{Handle, Items, NoMemory, Text};
-
-/// The handle of the core's buffer.
-const CORE: Handle = Handle(1);
-
-const REFUSAL: &[u8] = b"=!=";
+use wc_text::{Items, NoMemory, Text};
 
 const NOT_CONNECTED: &[u8] = b"irc: not connected";
-
-/// A refusal is a line of the core's buffer.
-pub(crate) fn put_refusal(
-    acts: &mut Items<Act>,
-    alloc: Global,
-    buffers: &Buffers,
-    text: &[u8],
-) -> Result<(), NoMemory>
-    ensures { OnOk result (acts.new ≡ acts.old ++ refusal buffers.now text.now) }
-{
-    let Some(core) = buffers.get(CORE) else {
-        return Ok(());
-    };
-    let no_tags = Items::new(alloc);
-    acts.push(printed(alloc, core.full_name.as_slice(), no_tags, REFUSAL, text)?)
-}
 
 fn put_not_connected(
     acts: &mut Items<Act>,
@@ -56,15 +33,6 @@ fn put_not_connected(
     put_refusal(acts, alloc, buffers, NOT_CONNECTED)
 }
 
-/// The line of a message.
-fn message_act(alloc: Global, command: &[u8], params: Items<Text>) -> Result<Act, NoMemory>
-    requires { IsWritable (message command.now params) }
-    ensures { IfOk result (λ a. a ≡ sent_message (message command.now params)) }
-{
-    let command = Text::from_slice(alloc, command)?;
-    Ok(Act::Send(line_of(alloc, command, params)?))
-}
-
 fn put_message(
     acts: &mut Items<Act>,
     alloc: Global,
@@ -75,25 +43,40 @@ fn put_message(
 ) -> Result<(), NoMemory>
     requires { IsWritable (message command.now params) }
     ensures { OnOk result (acts.new ≡ acts.old ++ if_linked buffers.now (link_seen link.entry)
-        (λ s. sent_message (message command.now params) ∷ [])) }
+        (λ s. line_acts buffers.now (line_of (message command.now params)))) }
 {
     if link.is_none() {
         return put_not_connected(acts, alloc, buffers);
     }
-    acts.push(message_act(alloc, command, params)?)
+    put_line(acts, alloc, buffers, message_line(alloc, command, params)?)
 }
 
-fn speech_act(alloc: Global, target: &[u8], text: &[u8]) -> Result<Act, NoMemory>
-    requires { IsWritable (speech target.now text.now) }
-    ensures { IfOk result (λ a. a ≡ sent_message (speech target.now text.now)) }
+/// The lines of two messages.
+fn put_both(
+    acts: &mut Items<Act>,
+    alloc: Global,
+    buffers: &Buffers,
+    link: Option<&State>,
+    first: (&[u8], Items<Text>),
+    second: (&[u8], Items<Text>),
+) -> Result<(), NoMemory>
+    requires first { IsWritable (message first.0.now first.1) }
+    requires second { IsWritable (message second.0.now second.1) }
+    ensures { OnOk result (acts.new ≡ acts.old ++ if_linked buffers.now (link_seen link.entry)
+        (λ s. both_acts buffers.now (line_of (message first.entry.0.now first.entry.1))
+        (line_of (message second.entry.0.now second.entry.1)))) }
 {
-    let mut params = Items::new(alloc);
-    params.push(Text::from_slice(alloc, target)?)?;
-    params.push(Text::from_slice(alloc, text)?)?;
-    message_act(alloc, b"PRIVMSG", params)
+    if link.is_none() {
+        return put_not_connected(acts, alloc, buffers);
+    }
+    let (command, params) = first;
+    let first = message_line(alloc, command, params)?;
+    let (command, params) = second;
+    let second = message_line(alloc, command, params)?;
+    put_both_lines(acts, alloc, buffers, first, second)
 }
 
-fn put_speech(
+fn put_talk(
     acts: &mut Items<Act>,
     alloc: Global,
     buffers: &Buffers,
@@ -101,33 +84,48 @@ fn put_speech(
     target: &[u8],
     text: &[u8],
 ) -> Result<(), NoMemory>
-    requires writable { IsWritable (speech target.now text.now) }
-    requires text { IsUtf8 target.now }
+    requires { IsSendable target.now text.now }
     ensures { OnOk result (acts.new ≡ acts.old ++ if_linked buffers.now (link_seen link.entry)
-        (λ s. sent_message (speech target.now text.now)
-        ∷ own_speech buffers.now s target.now text.now)) }
+        (λ s. speech_acts buffers.now s target.now text.now)) }
 {
-    let Some(state) = link else {
-        return put_not_connected(acts, alloc, buffers);
-    };
-    acts.push(speech_act(alloc, target, text)?)?;
-    put_own_speech(acts, alloc, buffers, state, target, text)
+    match link {
+        Some(state) => put_speech(acts, alloc, buffers, state, target, text),
+        None => put_not_connected(acts, alloc, buffers),
+    }
 }
 
-fn put_line(
+fn put_notice(
     acts: &mut Items<Act>,
     alloc: Global,
     buffers: &Buffers,
     link: Option<&State>,
-    line: &[u8],
+    target: &[u8],
+    text: &[u8],
+) -> Result<(), NoMemory>
+    requires { IsSendable target.now text.now }
+    ensures { OnOk result (acts.new ≡ acts.old ++ if_linked buffers.now (link_seen link.entry)
+        (λ s. notify_acts buffers.now s target.now text.now)) }
+{
+    match link {
+        Some(state) => put_notify(acts, alloc, buffers, state, target, text),
+        None => put_not_connected(acts, alloc, buffers),
+    }
+}
+
+fn put_quoted(
+    acts: &mut Items<Act>,
+    alloc: Global,
+    buffers: &Buffers,
+    link: Option<&State>,
+    line: Text,
 ) -> Result<(), NoMemory>
     ensures { OnOk result (acts.new ≡ acts.old ++ if_linked buffers.now (link_seen link.entry)
-        (λ s. act.Send line.now ∷ [])) }
+        (λ s. line_acts buffers.now line)) }
 {
     if link.is_none() {
         return put_not_connected(acts, alloc, buffers);
     }
-    acts.push(Act::Send(Text::from_slice(alloc, line)?))
+    put_line(acts, alloc, buffers, line)
 }
 
 fn put_private(
@@ -168,9 +166,23 @@ pub(crate) fn put_errand(
             put_message(acts, alloc, buffers, link, command, params)
         }
         Errand::Speak { target, text } => {
-            put_speech(acts, alloc, buffers, link, target, text.as_slice())
+            put_talk(acts, alloc, buffers, link, target, text.as_slice())
         }
-        Errand::Line(line) => put_line(acts, alloc, buffers, link, line),
+        Errand::Notify { target, text } => put_notice(acts, alloc, buffers, link, target, text),
+        Errand::Line(line) => put_quoted(acts, alloc, buffers, link, line),
         Errand::Open(nick) => put_private(acts, alloc, buffers, link, nick),
+        Errand::SendBoth {
+            first,
+            params,
+            second,
+            others,
+        } => put_both(
+            acts,
+            alloc,
+            buffers,
+            link,
+            (first, params),
+            (second, others),
+        ),
     }
 }

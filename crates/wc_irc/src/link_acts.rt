@@ -13,6 +13,7 @@ use crate::act::Act;
 use crate::autojoin::{first_words, line_of};
 use crate::channel::Channel;
 use crate::lines::printed;
+use crate::login_acts::put_list;
 use crate::nick_acts::put_emptied;
 use crate::state::State;
 use crate::talk_acts::{put_raised, sent};
@@ -44,7 +45,7 @@ fn word_or_own(word: &[u8]) -> &[u8]
 }
 
 /// A user name as one word.
-fn user_word(alloc: Global, user: &[u8]) -> Result<Text, NoMemory>
+pub(crate) fn user_word(alloc: Global, user: &[u8]) -> Result<Text, NoMemory>
     ensures { IfOk result (λ word. word ≡ user_word user.now) }
 {
     let line = in_one_line(alloc, user)?;
@@ -80,6 +81,7 @@ fn first_acts(alloc: Global, state: &State) -> Result<Items<Act>, NoMemory>
     ensures { IfOk result (λ acts. acts ≡ first_acts (seen state.now)) }
 {
     let mut acts = Items::new(alloc);
+    put_list(&mut acts, alloc, &state.negotiation)?;
     put_pass(&mut acts, alloc, state.login.password.as_slice())?;
     acts.push(sent(alloc, b"NICK", state.nick.as_slice())?)?;
     acts.push(user_act(alloc, state)?)?;
@@ -94,6 +96,7 @@ pub(crate) fn on_connect(state: &mut State, alloc: Global) -> Result<Items<Act>,
 {
     let acts = first_acts(alloc, state)?;
     state.is_connected = true;
+    state.negotiation.begin();
     Ok(acts)
 }
 
@@ -166,7 +169,9 @@ pub(crate) fn on_lost(
 {
     let acts = loss_acts(alloc, buffers, state)?;
     state.channels.clear();
+    state.mask = Text::new(alloc);
     state.is_connected = false;
     state.is_registered = false;
+    state.negotiation.lose(alloc);
     Ok(acts)
 }

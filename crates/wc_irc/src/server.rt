@@ -136,6 +136,9 @@ impl Server {
     /// QUIT; where it is the own one, a PART or KICK takes all of them out. A NICK keeps its place,
     /// and takes it out where the name is no nick or another one's. A MODE and a list of names (353)
     /// move nicks between the groups of PREFIX. What is said privately opens the buffer of its nick.
+    ///
+    /// A message of the own nick with a user and a host tells how much of a text reaches others in
+    /// one line.
     pub fn on_message(
         &mut self,
         alloc: Global,

@@ -1,21 +1,23 @@
-ghost use Rattle.std.specs.Prelude.{◌≡◌, ◌++◌, IfOk, OnOk, OnErr};
+ghost use Rattle.std.specs.Prelude.{◌≡◌, ◌++◌, unwrap_or, IfOk, OnOk, OnErr};
 ghost use Rattle.wc_irc.specs.ServerActs.{acts_of_kind, after_kind, kind_to};
-ghost use Rattle.wc_irc.specs.ServerActs.{acts_of_server, after_server};
+ghost use Rattle.wc_irc.specs.ServerActs.{acts_of_server, with_mask, after_server};
+ghost use Rattle.wc_irc.specs.Servers.{tells_mask, mask_after};
 ghost use Rattle.wc_irc.specs.ServersSeen.{seen};
 ghost use Rattle.wc_ircmsg.specs.Utf8.{MessageIsUtf8};
 
 use crate::act::Act;
 use crate::channel_acts::{put_join, put_quit};
 use crate::channel_row::{ChannelRow, put_row};
+use crate::login_acts::put_login;
 use crate::rename_acts::put_nick;
 use crate::speech_acts::put_privmsg;
 use crate::state::State;
 use crate::talk_acts::{put_error, put_notice, put_other, put_ping, put_taken, put_welcome};
 use std::alloc::Global;
 use wc_buffers::Buffers;
-use wc_irc_texts::{MessageKind, kind_of, param};
+use wc_irc_texts::{MessageKind, joined, kind_of, param};
 use wc_ircmsg::Message;
-use wc_text::{Items, NoMemory};
+use wc_text::{Items, NoMemory, Text};
 
 impl State {
     /// What a message tells the server as it is.
@@ -56,7 +58,58 @@ impl State {
                 self.quit(m.nick.as_slice());
                 Ok(())
             }
+            MessageKind::Other => self.take_login(alloc, m),
             _ => Ok(()),
+        }
+    }
+
+    /// Whether a message tells how others see the own nick.
+    fn tells_mask(&self, m: &Message) -> bool
+        ensures { result ≡ tells_mask (seen self.now) m.now }
+    {
+        !m.user.as_slice().is_empty()
+            && !m.host.as_slice().is_empty()
+            && self.is_own(m.nick.as_slice())
+    }
+
+    /// How others see the own nick, where a message tells it.
+    fn told_mask(&self, alloc: Global, m: &Message) -> Result<Option<Text>, NoMemory>
+        ensures { IfOk result (λ mask. unwrap_or mask self.now.mask
+            ≡ mask_after (seen self.now) m.now) }
+    {
+        if !self.tells_mask(m) {
+            return Ok(None);
+        }
+        let user = m.user.as_slice();
+        let mask = joined(alloc, &[user, b"@", m.host.as_slice()])?;
+        Ok(Some(mask))
+    }
+
+    fn put_mask(&mut self, told: Option<Text>)
+        ensures { seen self.new ≡ with_mask (unwrap_or told self.old.mask) (seen self.old) }
+    {
+        let Some(mask) = told else {
+            return;
+        };
+        self.mask = mask;
+    }
+
+    /// Takes in a message, and how others see the own nick where it tells it.
+    fn take_all(&mut self, alloc: Global, m: &Message, kind: MessageKind) -> Result<(), NoMemory>
+        ensures after { OnOk result (seen self.new ≡ with_mask (mask_after (seen self.old) m.now)
+            (after_kind (seen self.old) m.now kind)) }
+        ensures unchanged { OnErr result (seen self.new ≡ seen self.old) }
+    {
+        let told = self.told_mask(alloc, m)?;
+        match self.take_in(alloc, m, kind) {
+            Ok(()) => {
+                self.put_mask(told);
+                Ok(())
+            }
+            Err(NoMemory) => {
+                drop(told);
+                Err(NoMemory)
+            }
         }
     }
 }
@@ -93,7 +146,8 @@ fn put_acts(
         MessageKind::Notice => put_notice(acts, alloc, buffers, state, m),
         MessageKind::Ping => put_ping(acts, alloc, m),
         MessageKind::Error => put_error(acts, alloc, state, m),
-        MessageKind::Tokens | MessageKind::Other => put_other(acts, alloc, state, m),
+        MessageKind::Tokens => put_other(acts, alloc, state, m),
+        MessageKind::Other => put_login(acts, alloc, state, m),
     }
 }
 
@@ -129,7 +183,7 @@ pub(crate) fn on_message(
 {
     let kind = state.kind(m);
     let acts = acts_of(alloc, buffers, state, m, kind)?;
-    match state.take_in(alloc, m, kind) {
+    match state.take_all(alloc, m, kind) {
         Ok(()) => Ok(acts),
         Err(NoMemory) => {
             drop(acts);

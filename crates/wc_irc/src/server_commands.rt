@@ -22,9 +22,14 @@ impl Server {
     /// of the core's buffer, first as `wrong arguments: /x`, then as `irc: no channel here` where it
     /// is about a channel or a nick and the buffer names none that can be sent, and then as
     /// `irc: not connected` where the buffer is not this server's or the link does not stand. A text
-    /// that is no command is refused as `no text here` on a buffer of another kind.
+    /// that is no command is refused as `no text here` on a buffer of another kind. `/part` is about
+    /// the channel that its first word names, where that is joined, and `/mode` about that of the
+    /// buffer, where its first word begins with `+` or `-`.
     ///
-    /// What is sent by PRIVMSG, other than by `/quote`, is printed from the own nick as well.
+    /// What is sent by PRIVMSG, other than by `/quote`, is printed from the own nick as well. A text
+    /// of PRIVMSG, NOTICE or ACTION that would reach others in a line of more than 510 bytes is
+    /// sent in parts, and each part is printed. Last it is refused as `irc: too long: COMMAND`
+    /// where fewer than four bytes are left for a text, or where another line of more is to be sent.
     pub fn on_command(
         &self,
         alloc: Global,
@@ -38,7 +43,7 @@ impl Server {
 
         // No line that is sent has CR, LF or NUL, and that of each message is read as the same one.
         ensures one_line { IfOk result AreInLine }
-        ensures spelled { IsSpelledIn (errand_typed buffers.now buffer text.now) }
+        ensures spelled { IsSpelledIn (errand_typed buffers.now self.now buffer text.now) }
     {
         on_command(&self.state, alloc, buffers, buffer, text)
     }

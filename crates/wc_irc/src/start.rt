@@ -4,13 +4,13 @@ ghost use Rattle.wc_irc_texts.specs.Features.{default_features};
 ghost use Rattle.wc_irc.specs.Servers.{first_of};
 ghost use Rattle.wc_irc.specs.ServersSeen.{seen};
 ghost use Rattle.wc_irc.specs.Start.{option_of, address_in, is_tls, may_be_tried, nicks_of};
-ghost use Rattle.wc_irc.specs.Start.{server_nicks, first_state, start_of};
+ghost use Rattle.wc_irc.specs.Start.{server_nicks, first_negotiation, first_state, start_of};
 ghost use Rattle.wc_irc.specs.declared.refused.ServerRefused.TheVariants as Refused;
 
 use crate::refused::ServerRefused;
 use crate::state::{Login, State};
 use std::alloc::Global;
-use wc_irc_texts::{Features, is_nick, joined};
+use wc_irc_texts::{Features, Negotiation, is_nick, joined};
 use wc_options::{Options, read_address};
 use wc_text::{Address, Items, NoMemory, Text, split_once};
 
@@ -124,6 +124,26 @@ fn login(alloc: Global, options: &Options, server: &[u8]) -> Result<Login, NoMem
     })
 }
 
+fn first_negotiation(
+    alloc: Global,
+    options: &Options,
+    server: &[u8],
+) -> Result<Negotiation, NoMemory>
+    ensures { IfOk result (λ negotiation. negotiation ≡ first_negotiation options.now server.now) }
+{
+    let user = option(alloc, options, server, b"sasl_username")?;
+    let password = option(alloc, options, server, b"sasl_password")?;
+    let wishes = option(alloc, options, server, b"capabilities")?;
+    let at_failure = option(alloc, options, server, b"sasl_fail")?;
+    Negotiation::new(
+        alloc,
+        user,
+        password,
+        wishes.as_slice(),
+        at_failure.as_slice(),
+    )
+}
+
 /// A server of which nothing is known yet but what its options give.
 fn made(
     alloc: Global,
@@ -131,6 +151,7 @@ fn made(
     address: Address,
     login: Login,
     nicks: Items<Text>,
+    negotiation: Negotiation,
     features: Features,
 ) -> Result<State, NoMemory>
     requires { features ≡ default_features }
@@ -144,6 +165,8 @@ fn made(
       nick = first_of nicks (codes "weechat");
       nicks_left = drop 1 nicks;
       taken = 0;
+      negotiation = negotiation;
+      mask = [];
       is_connected = false;
       is_registered = false;
       features = default_features;
@@ -159,6 +182,8 @@ fn made(
         nicks,
         tried: 1,
         taken: 0,
+        negotiation,
+        mask: Text::new(alloc),
         is_connected: false,
         is_registered: false,
         features,
@@ -179,8 +204,9 @@ fn first_state(
     let features = Features::new(alloc)?;
     let nicks = server_nicks(alloc, options, &features, server)?;
     let login = login(alloc, options, server)?;
+    let negotiation = first_negotiation(alloc, options, server)?;
     let name = Text::from_slice(alloc, server)?;
-    made(alloc, name, address, login, nicks, features)
+    made(alloc, name, address, login, nicks, negotiation, features)
 }
 
 fn first_at(

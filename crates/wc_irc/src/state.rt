@@ -5,7 +5,7 @@ ghost use Rattle.wc_irc.specs.ServersSeen.{seen};
 
 use crate::channel::Channel;
 use std::alloc::Global;
-use wc_irc_texts::{Features, is_nick, is_same};
+use wc_irc_texts::{Features, Negotiation, is_nick, is_same};
 use wc_text::{Address, Items, NoMemory, Text};
 
 /// So many nicks that are in use are answered by another one.
@@ -33,6 +33,10 @@ pub(crate) struct State {
     pub(crate) tried: usize,
     /// How many nicks that were tried are in use.
     pub(crate) taken: u32,
+    /// How the login goes on.
+    pub(crate) negotiation: Negotiation,
+    /// `user@host` as others see the own nick, or nothing before it is told.
+    pub(crate) mask: Text,
     pub(crate) is_connected: bool,
     pub(crate) is_registered: bool,
     pub(crate) features: Features,
@@ -82,6 +86,7 @@ impl State {
         let nick = Text::from_slice(alloc, self.own_nick_from(nick))?;
         self.nick = nick;
         self.is_registered = true;
+        self.negotiation.end();
         Ok(())
     }
 

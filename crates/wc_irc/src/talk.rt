@@ -47,7 +47,8 @@ const SHORT: usize = 400;
 /// How many bytes there are in it beside its parts.
 const BETWEEN: usize = 7;
 
-fn room_after(room: usize, part: &[u8]) -> usize
+/// What a part leaves of the room.
+pub(crate) fn room_after(room: usize, part: &[u8]) -> usize
     ensures { result ≡ room - length part.now }
 {
     room.saturating_sub(part.len())

@@ -36,6 +36,7 @@ fn put_command(out: &mut Sheet, command: &ServerCommand<'_>) {
         ServerCommand::Notice { target, text } => out.put_two("notices", target, text),
         ServerCommand::Kick { nick, reason } => out.put_two("kicks", nick, reason),
         ServerCommand::Names => out.put("names"),
+        ServerCommand::Bid(word, text) => out.put_two("bids", word.name(), text),
         _ => put_of_one(out, command),
     }
 }

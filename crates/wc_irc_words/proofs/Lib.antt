@@ -1,1 +1,2 @@
+pub mod EverydayLemmas
 pub mod TypedLemmas

@@ -1,52 +1,61 @@
 -- Commands by their names, and words one after another.
 use Rattle.std.proofs.Common.{◌≡◌, ℕ, eqb, suc, ◌+◌, ◌<◌, ◌≤◌, Bool, true, false, cond, List, [], ◌∷◌, length, Option, Some, None, refl, ap, sym, ◌∙◌, arith, codes, nat_lt}
-use Rattle.std.specs.Prelude.{not, ◌&&◌, ◌||◌, ◌==◌, nat_le}
+use Rattle.std.specs.Prelude.{not, ◌&&◌, ◌||◌, ◌==◌, nat_le, option_map}
 use Rattle.std.proofs.lemmas.Bool.Decides.{nat_tests}
 use Rattle.wc_irc_words.specs.declared.command_word.CommandWord.{CommandWord}
 use Rattle.wc_irc_words.specs.declared.command_word.CommandWord.TheVariants as words
-use Rattle.wc_irc_words.specs.Typed.{ServerCommand, command_of, is_called, is_either, is_target, ends_at_colon, are_mode_words}
-use Rattle.wc_irc_words.specs.TypedSeen.{asked_with, word_named, mode_words_from}
+use Rattle.wc_irc_words.specs.declared.everyday.Everyday.{Everyday}
+use Rattle.wc_irc_words.specs.Everyday.{everyday_named}
+use Rattle.wc_irc_words.specs.Typed.{ServerCommand, Bids, command_of, is_called, is_either, is_target, ends_at_colon, are_mode_words}
+use Rattle.wc_irc_words.specs.TypedSeen.{asked_with, word_or, word_named, mode_words_from}
 
 abbrev pub asked_by : Option CommandWord → List ℕ → Option ServerCommand
 asked_by None text = None
 asked_by (Some word) text = Some (asked_with word text)
 
-asked_if : (b : Bool) (word : CommandWord) (others : Option CommandWord) (text : List ℕ) → asked_by (cond b (Some word) others) text ≡ cond b (Some (asked_with word text)) (asked_by others text)
-asked_if true word others text = refl
-asked_if false word others text = refl
+asked_if : (b : Bool) (word : CommandWord) (others : Option CommandWord) (more : Option Everyday) (text : List ℕ)
+    → asked_by (word_or (cond b (Some word) others) more) text ≡ cond b (Some (asked_with word text)) (asked_by (word_or others more) text)
+asked_if true word others more text = refl
+asked_if false word others more text = refl
 
 -- one more name before others
-step : (b : Bool) (word : CommandWord) (others : Option CommandWord) (text : List ℕ) (rest : Option ServerCommand) → asked_by others text ≡ rest
-    → asked_by (cond b (Some word) others) text ≡ cond b (Some (asked_with word text)) rest
-step b word others text rest same = asked_if b word others text ∙ ap (cond b (Some (asked_with word text))) same
+step : (b : Bool) (word : CommandWord) (others : Option CommandWord) (more : Option Everyday) (text : List ℕ) (rest : Option ServerCommand) → asked_by (word_or others more) text ≡ rest
+    → asked_by (word_or (cond b (Some word) others) more) text ≡ cond b (Some (asked_with word text)) rest
+step b word others more text rest same = asked_if b word others more text ∙ ap (cond b (Some (asked_with word text))) same
+
+-- no name but those of everyday commands
+bids : (more : Option Everyday) (text : List ℕ) → asked_by (word_or None more) text ≡ option_map (λ word. Bids word text) more
+bids None text = refl
+bids (Some word) text = refl
 
 -- a command that no letter stands for as well
 one_name : (b : Bool) → (b || b) ≡ b
 one_name true = refl
 one_name false = refl
 
-step_one : (b : Bool) (word : CommandWord) (others : Option CommandWord) (text : List ℕ) (rest : Option ServerCommand) → asked_by others text ≡ rest
-    → asked_by (cond (b || b) (Some word) others) text ≡ cond b (Some (asked_with word text)) rest
-step_one b word others text rest same = ap (λ t. asked_by (cond t (Some word) others) text) (one_name b) ∙ step b word others text rest same
+step_one : (b : Bool) (word : CommandWord) (others : Option CommandWord) (more : Option Everyday) (text : List ℕ) (rest : Option ServerCommand) → asked_by (word_or others more) text ≡ rest
+    → asked_by (word_or (cond (b || b) (Some word) others) more) text ≡ cond b (Some (asked_with word text)) rest
+step_one b word others more text rest same = ap (λ t. asked_by (word_or (cond t (Some word) others) more) text) (one_name b) ∙ step b word others more text rest same
 
 pub command_named : (name text : List ℕ) → asked_by (word_named name) text ≡ command_of name text
 unfolding command_of
 command_named name text =
-    step (is_either name (codes "join") (codes "j")) words.Join _ text _ (
-    step_one (is_called name (codes "part")) words.Part _ text _ (
-    step (is_either name (codes "msg") (codes "m")) words.Msg _ text _ (
-    step_one (is_called name (codes "notice")) words.Notice _ text _ (
-    step (is_either name (codes "query") (codes "q")) words.Query _ text _ (
-    step_one (is_called name (codes "me")) words.Me _ text _ (
-    step_one (is_called name (codes "nick")) words.Nick _ text _ (
-    step_one (is_called name (codes "topic")) words.Topic _ text _ (
-    step (is_either name (codes "kick") (codes "k")) words.Kick _ text _ (
-    step_one (is_called name (codes "mode")) words.Mode _ text _ (
-    step (is_either name (codes "names") (codes "n")) words.Names _ text _ (
-    step_one (is_called name (codes "quote")) words.Quote _ text _ (
-    step_one (is_called name (codes "server")) words.Server _ text _ (
-    step_one (is_called name (codes "connect")) words.Connect _ text _ (
-    step_one (is_called name (codes "disconnect")) words.Disconnect None text None refl))))))))))))))
+    let more = everyday_named name in
+    step (is_either name (codes "join") (codes "j")) words.Join _ more text _ (
+    step_one (is_called name (codes "part")) words.Part _ more text _ (
+    step (is_either name (codes "msg") (codes "m")) words.Msg _ more text _ (
+    step_one (is_called name (codes "notice")) words.Notice _ more text _ (
+    step (is_either name (codes "query") (codes "q")) words.Query _ more text _ (
+    step_one (is_called name (codes "me")) words.Me _ more text _ (
+    step_one (is_called name (codes "nick")) words.Nick _ more text _ (
+    step_one (is_called name (codes "topic")) words.Topic _ more text _ (
+    step (is_either name (codes "kick") (codes "k")) words.Kick _ more text _ (
+    step_one (is_called name (codes "mode")) words.Mode _ more text _ (
+    step (is_either name (codes "names") (codes "n")) words.Names _ more text _ (
+    step_one (is_called name (codes "quote")) words.Quote _ more text _ (
+    step_one (is_called name (codes "server")) words.Server _ more text _ (
+    step_one (is_called name (codes "connect")) words.Connect _ more text _ (
+    step_one (is_called name (codes "disconnect")) words.Disconnect None more text _ (bids more text)))))))))))))))
 
 -- what so many words before, which did not end them, and these make together
 abbrev all_from : ℕ → List (List ℕ) → Bool

@@ -1,2 +1,3 @@
+pub mod Everyday
 pub mod Typed
 pub mod TypedSeen

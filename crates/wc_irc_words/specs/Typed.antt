@@ -1,9 +1,12 @@
 -- What a text that is typed asks of servers, by its bytes alone.
 use Rattle.std.specs.Prelude.{ℕ, Bool, true, false, not, ◌&&◌, ◌||◌, ◌==◌, nat_lt, nat_le, List, []}
 use Rattle.std.specs.Prelude.{◌∷◌, codes, length, Option, Some, None, if◌then◌else◌}
+use Rattle.std.specs.Prelude.{option_map}
 use Rattle.std.specs.Str.{bytes_eq, str_eq_ignore_ascii_case}
 use Rattle.wc_text.specs.Splits.{begins_with, word_of, rest_of}
 use Rattle.wc_text.specs.Words.{words_of, is_filled}
+use Rattle.wc_irc_words.specs.declared.everyday.Everyday.{Everyday}
+use Rattle.wc_irc_words.specs.Everyday.{everyday_named}
 
 pub data ServerCommand : Type 0 where
   -- a server's name and address, and whether it is to use TLS, where that is said
@@ -12,8 +15,10 @@ pub data ServerCommand : Type 0 where
   Connects : List ℕ → ServerCommand
   -- the server that is named, or else that of the buffer
   Disconnects : Option (List ℕ) → ServerCommand
+  -- one or two words: channels, and the keys of the first of them, each parted at commas
   Joins : List ℕ → ServerCommand
-  -- with a reason, which may be empty
+  -- with a channel that is joined, or else of the buffer's, and a reason, of which each may be left
+  -- out
   Parts : List ℕ → ServerCommand
   -- a text to a target
   Says : List ℕ → List ℕ → ServerCommand
@@ -27,6 +32,8 @@ pub data ServerCommand : Type 0 where
   Kicks : List ℕ → List ℕ → ServerCommand
   SetsModes : List (List ℕ) → ServerCommand
   AsksNames : ServerCommand
+  -- an everyday command with what comes after its name
+  Bids : Everyday → List ℕ → ServerCommand
   -- a line as it stands
   Quotes : List ℕ → ServerCommand
   -- a text on the channel or to the nick of the buffer
@@ -82,6 +89,14 @@ are_mode_words words = nat_lt 0 (length words) && (nat_le (length words) 15 && e
 abbrev pub mode_command : List ℕ → ServerCommand
 mode_command text = if are_mode_words (words_of text) then SetsModes (words_of text)
     else Wrong (codes "mode")
+
+-- ---- `/join`: one or two words, of which the last alone may begin with `:`
+
+abbrev pub are_join_words : List ℕ → Bool
+are_join_words text = are_mode_words (words_of text) && not (is_filled (rest_of (rest_of text)))
+
+abbrev pub join_command : List ℕ → ServerCommand
+join_command text = if are_join_words text then Joins text else Wrong (codes "join")
 
 -- ---- `/query`: a word that can be sent before others, and a text that is said, where there is one
 
@@ -140,8 +155,7 @@ is_either name word letter = is_called name word || is_called name letter
 -- what a command of this name asks with this text; None where it is another command
 unfoldable pub command_of : List ℕ → List ℕ → Option ServerCommand
 command_of name text =
-    if is_either name (codes "join") (codes "j")
-    then Some (one_word (codes "join") (λ c. Joins c) text) else (
+    if is_either name (codes "join") (codes "j") then Some (join_command text) else (
     if is_called name (codes "part") then Some (Parts text) else (
     if is_either name (codes "msg") (codes "m")
     then Some (target_and_text (codes "msg") (λ t said. Says t said) text) else (
@@ -165,7 +179,7 @@ command_of name text =
     if is_called name (codes "connect")
     then Some (one_word (codes "connect") (λ n. Connects n) text) else (
     if is_called name (codes "disconnect") then Some (disconnect_command text)
-    else None))))))))))))))
+    else option_map (λ word. Bids word text) (everyday_named name)))))))))))))))
 
 -- after a first `/`: a second one makes a text of it, which begins with that one
 abbrev pub slash_command : List ℕ → Option ServerCommand

@@ -1,6 +1,6 @@
 -- What a text that was read asks of servers.
 use Rattle.std.specs.Prelude.{ℕ, suc, Option, Some, None, List, [], ◌∷◌, find, codes, Bool, not}
-use Rattle.std.specs.Prelude.{◌&&◌, ◌||◌, ◌==◌, nat_lt}
+use Rattle.std.specs.Prelude.{◌&&◌, ◌||◌, ◌==◌, nat_lt, option_map}
 use Rattle.std.specs.Prelude.{if◌then◌else◌}
 use Rattle.std.specs.Borrow.{Bor}
 use Rattle.wc_text.specs.Splits.{word_of, rest_of}
@@ -13,9 +13,11 @@ use Rattle.wc_irc_words.specs.Typed.{ServerCommand, AddsServer, DeletesServer, C
 use Rattle.wc_irc_words.specs.Typed.{Joins, Parts, Says, Notices, Queries, Does, Renames}
 use Rattle.wc_irc_words.specs.Typed.{SetsTopic, Kicks}
 use Rattle.wc_irc_words.specs.Typed.{SetsModes, AsksNames, Quotes, Talks, Wrong, is_target, one_word}
-use Rattle.wc_irc_words.specs.Typed.{without_words, some_text, query_command}
-use Rattle.wc_irc_words.specs.Typed.{target_and_text, is_either}
+use Rattle.wc_irc_words.specs.Typed.{without_words, some_text, join_command, query_command}
+use Rattle.wc_irc_words.specs.Typed.{target_and_text, is_either, Bids}
 use Rattle.wc_irc_words.specs.Typed.{kick_command, mode_command, server_command, disconnect_command}
+use Rattle.wc_irc_words.specs.declared.everyday.Everyday.{Everyday}
+use Rattle.wc_irc_words.specs.Everyday.{everyday_name, everyday_named}
 
 -- a word that was found
 abbrev pub word_in : Option (Bor (List ℕ)) → Option (List ℕ)
@@ -38,6 +40,7 @@ meaning (lent.Topic topic) = SetsTopic topic.now
 meaning (lent.Kick nick reason) = Kicks nick.now reason.now
 meaning (lent.Mode words) = SetsModes (words_of words.now)
 meaning lent.Names = AsksNames
+meaning (lent.Bid word text) = Bids word text.now
 meaning (lent.Quote line) = Quotes line.now
 meaning (lent.Talk text) = Talks text.now
 meaning (lent.Wrong name) = Wrong name.now
@@ -60,6 +63,7 @@ name_of words.Quote = codes "quote"
 name_of words.Server = codes "server"
 name_of words.Connect = codes "connect"
 name_of words.Disconnect = codes "disconnect"
+name_of (words.Everyday word) = everyday_name word
 
 -- the letter by which it is known as well, where there is one
 abbrev pub letter_of : CommandWord → List ℕ
@@ -78,6 +82,7 @@ letter_of words.Quote = codes "quote"
 letter_of words.Server = codes "server"
 letter_of words.Connect = codes "connect"
 letter_of words.Disconnect = codes "disconnect"
+letter_of (words.Everyday word) = everyday_name word
 
 abbrev pub all_words : List CommandWord
 all_words = words.Join ∷ words.Part ∷ words.Msg ∷ words.Notice ∷ words.Query ∷ words.Me ∷
@@ -88,8 +93,12 @@ all_words = words.Join ∷ words.Part ∷ words.Msg ∷ words.Notice ∷ words.Q
 abbrev pub is_name : List ℕ → CommandWord → Bool
 is_name text word = is_either text (name_of word) (letter_of word)
 
+abbrev pub word_or : Option CommandWord → Option Everyday → Option CommandWord
+word_or None everyday = option_map (λ word. words.Everyday word) everyday
+word_or (Some word) everyday = Some word
+
 abbrev pub word_named : List ℕ → Option CommandWord
-word_named text = find (is_name text) all_words
+word_named text = word_or (find (is_name text) all_words) (everyday_named text)
 
 -- the only word of a text
 abbrev pub only_word : List ℕ → Option (List ℕ)
@@ -98,7 +107,7 @@ only_word (b ∷ text) = if is_filled (rest_of (b ∷ text)) then None else Some
 
 -- what a command asks with a text after it
 abbrev pub asked_with : CommandWord → List ℕ → ServerCommand
-asked_with words.Join text = one_word (codes "join") (λ c. Joins c) text
+asked_with words.Join text = join_command text
 asked_with words.Part text = Parts text
 asked_with words.Msg text = target_and_text (codes "msg") (λ t said. Says t said) text
 asked_with words.Notice text = target_and_text (codes "notice") (λ t said. Notices t said) text
@@ -113,6 +122,11 @@ asked_with words.Quote text = some_text (codes "quote") (λ line. Quotes line) t
 asked_with words.Server text = server_command text
 asked_with words.Connect text = one_word (codes "connect") (λ n. Connects n) text
 asked_with words.Disconnect text = disconnect_command text
+asked_with (words.Everyday word) text = Bids word text
+
+-- two words at most
+abbrev pub at_most_two : List ℕ → Bool
+at_most_two text = not (is_filled (rest_of (rest_of text)))
 
 -- a target and the text after it, where both are there
 abbrev pub pair_in : Option (Bor (List ℕ) × Bor (List ℕ)) → Option (List ℕ × List ℕ)

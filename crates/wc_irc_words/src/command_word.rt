@@ -1,5 +1,9 @@
-ghost use Rattle.std.specs.Prelude.{◌≡◌};
-ghost use Rattle.wc_irc_words.specs.TypedSeen.{name_of, letter_of, is_name, word_named};
+ghost use Rattle.std.specs.Prelude.{◌≡◌, option_map, find};
+ghost use Rattle.wc_irc_words.specs.Everyday.{everyday_named};
+ghost use Rattle.wc_irc_words.specs.TypedSeen.{name_of, letter_of, is_name, all_words, word_named};
+ghost use Rattle.wc_irc_words.specs.declared.command_word.CommandWord.TheVariants as words;
+
+use crate::everyday::Everyday;
 
 /// The name of a command that speaks to servers.
 #[derive(Clone, Copy, PartialEq, Eq)]
@@ -19,6 +23,8 @@ pub enum CommandWord {
     Server,
     Connect,
     Disconnect,
+    /// One of the everyday commands.
+    Everyday(Everyday),
 }
 
 impl CommandWord {
@@ -59,6 +65,7 @@ impl CommandWord {
             CommandWord::Server => b"server",
             CommandWord::Connect => b"connect",
             CommandWord::Disconnect => b"disconnect",
+            CommandWord::Everyday(word) => word.name(),
         }
     }
 
@@ -86,9 +93,27 @@ impl CommandWord {
     pub fn named(text: &[u8]) -> Option<CommandWord>
         ensures { result ≡ word_named text.now }
     {
+        match CommandWord::find(text) {
+            Some(word) => Some(word),
+            None => CommandWord::everyday(text),
+        }
+    }
+
+    fn find(text: &[u8]) -> Option<CommandWord>
+        ensures { result ≡ find (is_name text.now) all_words }
+    {
         CommandWord::ALL
             .iter()
             .copied()
             .find(|word| word.is_name(text))
+    }
+
+    fn everyday(text: &[u8]) -> Option<CommandWord>
+        ensures { result ≡ option_map (λ word. words.Everyday word) (everyday_named text.now) }
+    {
+        match Everyday::named(text) {
+            Some(word) => Some(CommandWord::Everyday(word)),
+            None => None,
+        }
     }
 }

@@ -1,15 +1,16 @@
 ghost use Rattle.std.specs.Prelude.{◌≡◌, codes, option_map};
 ghost use Rattle.wc_irc_words.specs.Typed.{without_words, one_word, some_text};
 ghost use Rattle.wc_irc_words.specs.Typed.{target_and_text, kick_command, mode_command, command_of};
-ghost use Rattle.wc_irc_words.specs.Typed.{query_command, query_with, slash_command, asked_of};
-ghost use Rattle.wc_irc_words.specs.Typed.{Joins, Says, Notices, Renames, AsksNames, Connects};
+ghost use Rattle.wc_irc_words.specs.Typed.{join_command, query_command, query_with, slash_command};
+ghost use Rattle.wc_irc_words.specs.Typed.{asked_of, Says, Notices, Renames, AsksNames, Connects};
 ghost use Rattle.wc_irc_words.specs.TypedSeen.{meaning, asked_with, pair_in, target_pair};
 ghost use Rattle.wc_text.specs.Splits.{word_of, rest_of};
 ghost use Rattle.wc_text.specs.Words.{is_filled};
 
 use crate::command_word::CommandWord;
+use crate::everyday::Everyday;
 use crate::typed_server::{disconnect_command, server_command};
-use crate::typed_words::{are_mode_words, is_target, only_word};
+use crate::typed_words::{are_mode_words, is_at_most_two, is_target, only_word};
 use wc_text::cut_word;
 
 /// What a text that is typed asks of servers.
@@ -25,8 +26,9 @@ pub enum ServerCommand<'a> {
     Connect(&'a [u8]),
     /// The server that is named, or else that of the buffer.
     Disconnect(Option<&'a [u8]>),
+    /// One or two words: channels, and the keys of the first of them, each parted at commas.
     Join(&'a [u8]),
-    /// The channel of the buffer, with a reason, which may be empty.
+    /// A channel that is joined, or else that of the buffer, and a reason; each may be left out.
     Part(&'a [u8]),
     Say {
         target: &'a [u8],
@@ -49,6 +51,8 @@ pub enum ServerCommand<'a> {
     /// Blanks part the words.
     Mode(&'a [u8]),
     Names,
+    /// An everyday command with what comes after its name.
+    Bid(Everyday, &'a [u8]),
     /// A line as it stands.
     Quote(&'a [u8]),
     /// A text on the channel or to the nick of the buffer.
@@ -57,12 +61,14 @@ pub enum ServerCommand<'a> {
     Wrong(&'a [u8]),
 }
 
+/// One or two words, of which the last alone may begin with `:`.
 fn join_command(text: &[u8]) -> ServerCommand<'_>
-    ensures { meaning result ≡ one_word (codes "join") (λ c. Joins c) text.now }
+    ensures { meaning result ≡ join_command text.now }
 {
-    match only_word(text) {
-        Some(channel) => ServerCommand::Join(channel),
-        None => ServerCommand::Wrong(b"join"),
+    if are_mode_words(text) && is_at_most_two(text) {
+        ServerCommand::Join(text)
+    } else {
+        ServerCommand::Wrong(b"join")
     }
 }
 
@@ -200,6 +206,7 @@ fn asked(word: CommandWord, text: &[u8]) -> ServerCommand<'_>
         CommandWord::Server => server_command(text),
         CommandWord::Connect => connect_command(text),
         CommandWord::Disconnect => disconnect_command(text),
+        CommandWord::Everyday(word) => ServerCommand::Bid(word, text),
     }
 }
 

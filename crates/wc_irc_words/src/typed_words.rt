@@ -1,7 +1,7 @@
 ghost use Rattle.std.specs.Option.{option_copied};
 ghost use Rattle.std.specs.Prelude.{◌≡◌, None};
 ghost use Rattle.wc_irc_words.specs.Typed.{is_target, are_mode_words, tls_words};
-ghost use Rattle.wc_irc_words.specs.TypedSeen.{only_word};
+ghost use Rattle.wc_irc_words.specs.TypedSeen.{only_word, at_most_two};
 ghost use Rattle.wc_text.specs.Words.{words_of};
 
 use wc_text::{cut_word, words};
@@ -34,9 +34,18 @@ pub fn is_target(word: &[u8]) -> bool
     }
 }
 
+/// Whether a text has two words at most.
+pub(crate) fn is_at_most_two(text: &[u8]) -> bool
+    ensures { result ≡ at_most_two text.now }
+{
+    let (_first, rest) = cut_word(text);
+    let (_second, rest) = cut_word(rest);
+    rest.is_empty()
+}
+
 /// Whether these are 1 to 15 words, of which the last alone may begin with `:`.
 #[tactic(auto, using(crate::proofs::TypedLemmas::mode_words_all))]
-pub(crate) fn are_mode_words(text: &[u8]) -> bool
+pub fn are_mode_words(text: &[u8]) -> bool
     ensures { result ≡ are_mode_words (words_of text.now) }
 {
     let mut count = 0;

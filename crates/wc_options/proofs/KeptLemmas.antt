@@ -39,7 +39,7 @@ FitAll-unset (row ∷ rows) = (refl, FitAll-unset rows)
 
 pub FitAll-fresh : FitAll own_at_first of_server (map own_at_first of_server)
 unfolding of_server globals place_in value_fits is_storable
-FitAll-fresh = ((refl, IsUtf8-nil), (refl, (refl, (refl, (refl, (refl, (refl, (refl, tt))))))))
+FitAll-fresh = ((refl, IsUtf8-nil), (refl, (refl, (refl, (refl, (refl, (refl, (refl, (refl, (refl, (refl, (refl, tt))))))))))))
 
 -- the first value of an option of a server fits it
 fits-first : (first : OptionRow → Option (List ℕ)) (rows : List OptionRow) (place : ℕ) → place < length rows → FitAll first rows (map first rows) → Fits first (row_at rows place) (first (row_at rows place))
@@ -226,21 +226,21 @@ stored-remove options defaults no_address names place stored = record {
 
 -- ---- the places that are read
 
-length-globals : length globals ≡ 12
+length-globals : length globals ≡ 16
 unfolding globals
 length-globals = refl
 
-length-of_server : length of_server ≡ 8
+length-of_server : length of_server ≡ 12
 unfolding of_server
 length-of_server = refl
 
-pub length-set_values : (options : OptionsValue) → AreOptionsKept options → length options.set ≡ 12
+pub length-set_values : (options : OptionsValue) → AreOptionsKept options → length options.set ≡ 16
 length-set_values options kept = FitAll-length unset_at_first globals options.set kept.set_fit ∙ length-globals
 
-pub length-own_values : (servers : List ServerOptions) (place : ℕ) (d : ServerOptions) → place < length servers → AreServers servers → length (get_or servers place d).own ≡ 8
+pub length-own_values : (servers : List ServerOptions) (place : ℕ) (d : ServerOptions) → place < length servers → AreServers servers → length (get_or servers place d).own ≡ 12
 length-own_values servers place d h are = FitAll-length own_at_first of_server (get_or servers place d).own (FitAll-own servers place d h are) ∙ length-of_server
 
-pub first_fits : (place : ℕ) → place < 8 → Fits own_at_first (row_at of_server place) (own_at_first (row_at of_server place))
+pub first_fits : (place : ℕ) → place < 12 → Fits own_at_first (row_at of_server place) (own_at_first (row_at of_server place))
 first_fits place h = fits-first own_at_first of_server place (rw length-of_server h) FitAll-fresh
 
 -- ---- options by their names

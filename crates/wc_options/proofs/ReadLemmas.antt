@@ -15,11 +15,11 @@ use Rattle.wc_options.specs.declared.refusal.SetRefused.TheVariants.{TooManyServ
 use Rattle.wc_options.proofs.KeptLemmas.{FitAll-unset, stored-own, length-own_values}
 use Rattle.wc_options.proofs.ServersLemmas.{IsAt-position, find_at, find_none, put_own_at, put_own_none, reset_own_at, without_at, without_none}
 
-length-globals : length globals ≡ 12
+length-globals : length globals ≡ 16
 unfolding globals
 length-globals = refl
 
-pub length-defaults : (defaults : List (List ℕ)) → defaults ≡ map (λ (row : OptionRow). row.default) globals → length defaults ≡ 12
+pub length-defaults : (defaults : List (List ℕ)) → defaults ≡ map (λ (row : OptionRow). row.default) globals → length defaults ≡ 16
 length-defaults defaults e = ap length e ∙ length-map globals (λ row. row.default) ∙ length-globals
 
 abbrev pub default_of : OptionRow → List ℕ
@@ -27,17 +27,17 @@ default_of row = row.default
 
 -- ---- the first options
 
-pub defaults_more : (place : ℕ) → place < 12 → map default_of (take (place + 1) globals) ≡ map default_of (take place globals) ++ (row_at globals place).default ∷ []
+pub defaults_more : (place : ℕ) → place < 16 → map default_of (take (place + 1) globals) ≡ map default_of (take place globals) ++ (row_at globals place).default ∷ []
 defaults_more place h =
     let below : place < length globals = rw length-globals h in
     map_more default_of globals place no_row below
 
-pub unset_more : (place : ℕ) → place < 12 → map unset_at_first (take (place + 1) globals) ≡ map unset_at_first (take place globals) ++ None ∷ []
+pub unset_more : (place : ℕ) → place < 16 → map unset_at_first (take (place + 1) globals) ≡ map unset_at_first (take place globals) ++ None ∷ []
 unset_more place h =
     let below : place < length globals = rw length-globals h in
     map_more unset_at_first globals place no_row below
 
-pub globals_all : (place : ℕ) → 12 ≤ place → take place globals ≡ globals
+pub globals_all : (place : ℕ) → 16 ≤ place → take place globals ≡ globals
 globals_all place h = take_all place globals (rw length-globals h)
 
 pub ruleset first_options = (defaults_more, unset_more, globals_all)
@@ -66,14 +66,14 @@ global_value-some options place read value at h e =
     rw own refl
 
 pub global_value-none : (options : OptionsValue) (place : ℕ) (read : Option (List ℕ)) (defaults : List (List ℕ)) (default : List ℕ)
-    → read ≡ get_or options.set place read → place < length options.set → read ≡ None → defaults ≡ map default_of globals → place < 12 → default ≡ get_or defaults place default
+    → read ≡ get_or options.set place read → place < length options.set → read ≡ None → defaults ≡ map default_of globals → place < 16 → default ≡ get_or defaults place default
     → default ≡ global_value options place
 global_value-none options place read defaults default at h e are below there =
     let own : get_or options.set place None ≡ None = sym (get_or_read options.set place read h at None) ∙ e in
     let within : place < length globals = rw length-globals below in
     rw own (there ∙ ap (λ ds. get_or ds place default) are ∙ get_or-map default_of globals place no_row default within)
 
-pub default_of_none : (place : ℕ) → place < 8 → None ≡ stands_for (row_at of_server place) → (row_at of_server place).default ≡ []
+pub default_of_none : (place : ℕ) → place < 12 → None ≡ stands_for (row_at of_server place) → (row_at of_server place).default ≡ []
 unfolding of_server globals place_in
 default_of_none zero h e = refl
 default_of_none (suc zero) h e = cc
@@ -83,10 +83,14 @@ default_of_none (suc (suc (suc (suc zero)))) h e = cc
 default_of_none (suc (suc (suc (suc (suc zero))))) h e = cc
 default_of_none (suc (suc (suc (suc (suc (suc zero)))))) h e = cc
 default_of_none (suc (suc (suc (suc (suc (suc (suc zero))))))) h e = cc
-default_of_none (suc (suc (suc (suc (suc (suc (suc (suc place)))))))) h e = absurd (omega arith)
+default_of_none (suc (suc (suc (suc (suc (suc (suc (suc zero)))))))) h e = cc
+default_of_none (suc (suc (suc (suc (suc (suc (suc (suc (suc zero))))))))) h e = cc
+default_of_none (suc (suc (suc (suc (suc (suc (suc (suc (suc (suc zero)))))))))) h e = cc
+default_of_none (suc (suc (suc (suc (suc (suc (suc (suc (suc (suc (suc zero))))))))))) h e = cc
+default_of_none (suc (suc (suc (suc (suc (suc (suc (suc (suc (suc (suc (suc place)))))))))))) h e = absurd (omega arith)
 
 pub server_value-none : (options : OptionsValue) (server : ServerOptions) (place : ℕ) (no_address : List ℕ)
-    → place < 8 → None ≡ get_or server.own place None → None ≡ stands_for (row_at of_server place) → no_address ≡ [] → no_address ≡ server_value options server place
+    → place < 12 → None ≡ get_or server.own place None → None ≡ stands_for (row_at of_server place) → no_address ≡ [] → no_address ≡ server_value options server place
 server_value-none options server place no_address h own stands empty =
     rw (← own, ← stands) (empty ∙ sym (default_of_none place h stands))
 
@@ -127,10 +131,10 @@ stored-own_at options defaults no_address names found place value server new sto
     subst (λ (s : ServerOptions). AreTextsStored (record { set = options.set; servers = set options.servers found s }) defaults no_address names)
     (sym (is ∙ ap (with_own place value) read)) (stored-own options defaults no_address names found place value server stored h fit)
 
-pub length-own_at : (servers : List ServerOptions) (found : ℕ) (server : ServerOptions) → found < length servers → AreServers servers → server ≡ get_or servers found server → length server.own ≡ 8
+pub length-own_at : (servers : List ServerOptions) (found : ℕ) (server : ServerOptions) → found < length servers → AreServers servers → server ≡ get_or servers found server → length server.own ≡ 12
 length-own_at servers found server h are read = ap (λ (s : ServerOptions). length s.own) read ∙ length-own_values servers found server h are
 
-pub length-fresh : (server : ServerOptions) (name : List ℕ) → server ≡ fresh_server name → length server.own ≡ 8
+pub length-fresh : (server : ServerOptions) (name : List ℕ) → server ≡ fresh_server name → length server.own ≡ 12
 unfolding of_server
 length-fresh server name e = ap (λ (s : ServerOptions). length s.own) e
 

@@ -27,18 +27,18 @@ place_in-below : (name : List ℕ) (rows : List OptionRow) (place : ℕ) → pla
 unfolding place_in
 place_in-below name rows place e = (position-Some (λ row. bytes_eq row.name name) rows place no_row e).0
 
-length-globals : length globals ≡ 12
+length-globals : length globals ≡ 16
 unfolding globals
 length-globals = refl
 
-length-of_server : length of_server ≡ 8
+length-of_server : length of_server ≡ 12
 unfolding of_server
 length-of_server = refl
 
-pub place_in_globals : (name : List ℕ) (place : ℕ) → place_in name globals ≡ Some place → place < 12
+pub place_in_globals : (name : List ℕ) (place : ℕ) → place_in name globals ≡ Some place → place < 16
 place_in_globals name place e = rw (← length-globals) (place_in-below name globals place e)
 
-pub place_in_of_server : (name : List ℕ) (place : ℕ) → place_in name of_server ≡ Some place → place < 8
+pub place_in_of_server : (name : List ℕ) (place : ℕ) → place_in name of_server ≡ Some place → place < 12
 place_in_of_server name place e = rw (← length-of_server) (place_in-below name of_server place e)
 
 -- ---- first values, place by place
@@ -46,44 +46,44 @@ place_in_of_server name place e = rw (← length-of_server) (place_in-below name
 abbrev none_of : Option (List ℕ)
 none_of = None
 
-pub firsts_more : (place : ℕ) → place < 8 → map own_at_first (take (place + 1) of_server) ≡ map own_at_first (take place of_server) ++ own_at_first (row_at of_server place) ∷ []
+pub firsts_more : (place : ℕ) → place < 12 → map own_at_first (take (place + 1) of_server) ≡ map own_at_first (take place of_server) ++ own_at_first (row_at of_server place) ∷ []
 firsts_more place h =
     let below : place < length of_server = rw length-of_server h in
     map_more own_at_first of_server place no_row below
 
-pub firsts_all : (place : ℕ) → 8 ≤ place → map own_at_first (take place of_server) ≡ map own_at_first of_server
+pub firsts_all : (place : ℕ) → 12 ≤ place → map own_at_first (take place of_server) ≡ map own_at_first of_server
 firsts_all place h =
     let all : length of_server ≤ place = rw length-of_server h in
     ap (map own_at_first) (take_all place of_server all)
 
 pub ruleset firsts = (firsts_more, firsts_all)
 
-firsts-are : map own_at_first of_server ≡ Some [] ∷ replicate 7 None
+firsts-are : map own_at_first of_server ≡ Some [] ∷ replicate 11 None
 unfolding of_server globals place_in
 firsts-are = refl
 
 none_in : (n place : ℕ) → place < n → get_or (replicate n (none_of)) place none_of ≡ none_of
 none_in n place h = get_or-replicate n place none_of none_of h
 
-first_of : (place : ℕ) → place < 8 → own_at_first (row_at of_server place) ≡ get_or (Some [] ∷ replicate 7 none_of) place none_of
+first_of : (place : ℕ) → place < 12 → own_at_first (row_at of_server place) ≡ get_or (Some [] ∷ replicate 11 none_of) place none_of
 first_of place h =
     let below : place < length of_server = rw length-of_server h in
     sym (get_or-map own_at_first of_server place no_row none_of below) ∙ ap (λ firsts. get_or firsts place none_of) firsts-are
 
-pub first_value_zero : (place : ℕ) → place < 8 → place ≡ 0 → own_at_first (row_at of_server place) ≡ Some []
-first_value_zero place h e = first_of place h ∙ ap (λ p. get_or (Some [] ∷ replicate 7 none_of) p none_of) e
+pub first_value_zero : (place : ℕ) → place < 12 → place ≡ 0 → own_at_first (row_at of_server place) ≡ Some []
+first_value_zero place h e = first_of place h ∙ ap (λ p. get_or (Some [] ∷ replicate 11 none_of) p none_of) e
 
-pub first_value_other : (place : ℕ) → place < 8 → place ≢ 0 → own_at_first (row_at of_server place) ≡ None
+pub first_value_other : (place : ℕ) → place < 12 → place ≢ 0 → own_at_first (row_at of_server place) ≡ None
 first_value_other zero h ne = absurd (ne refl)
-first_value_other (suc place) h ne = first_of (suc place) h ∙ none_in 7 place (omega arith)
+first_value_other (suc place) h ne = first_of (suc place) h ∙ none_in 11 place (omega arith)
 
 pub ruleset first_values = (first_value_zero, first_value_other)
 
-stands-are : map stands_for of_server ≡ None ∷ Some 5 ∷ Some 7 ∷ Some 6 ∷ Some 8 ∷ Some 9 ∷ Some 10 ∷ Some 11 ∷ []
+stands-are : map stands_for of_server ≡ None ∷ Some 5 ∷ Some 7 ∷ Some 6 ∷ Some 8 ∷ Some 9 ∷ Some 10 ∷ Some 11 ∷ Some 12 ∷ Some 13 ∷ Some 14 ∷ Some 15 ∷ []
 unfolding of_server globals place_in
 stands-are = refl
 
-pub stands_for_reads : (place : ℕ) (d : Option ℕ) → place < 8 → stands_for (row_at of_server place) ≡ get_or (None ∷ Some 5 ∷ Some 7 ∷ Some 6 ∷ Some 8 ∷ Some 9 ∷ Some 10 ∷ Some 11 ∷ []) place d
+pub stands_for_reads : (place : ℕ) (d : Option ℕ) → place < 12 → stands_for (row_at of_server place) ≡ get_or (None ∷ Some 5 ∷ Some 7 ∷ Some 6 ∷ Some 8 ∷ Some 9 ∷ Some 10 ∷ Some 11 ∷ Some 12 ∷ Some 13 ∷ Some 14 ∷ Some 15 ∷ []) place d
 stands_for_reads place d h =
     let below : place < length of_server = rw length-of_server h in
     sym (get_or-map stands_for of_server place no_row d below) ∙ ap (λ list. get_or list place d) stands-are

@@ -45,8 +45,8 @@ row_of_located (AtServer server place) = row_at of_server place
 
 -- it is in the table
 abbrev pub IsInTable : Located → Type 0
-IsInTable (AtGlobal place) = place < 12
-IsInTable (AtServer server place) = place < 8
+IsInTable (AtGlobal place) = place < 16
+IsInTable (AtServer server place) = place < 12
 
 -- the server that it names may have that name
 abbrev pub IsNamed : Located → Type 0

@@ -50,6 +50,10 @@ globals =
     ∷ option (codes "irc.server_default.autojoin") Text [] (codes "text")
     ∷ option (codes "irc.server_default.autoconnect") Switch (codes "off") (codes "on, off")
     ∷ option (codes "irc.server_default.tls") Switch (codes "on") (codes "on, off")
+    ∷ option (codes "irc.server_default.sasl_username") Text [] (codes "text")
+    ∷ option (codes "irc.server_default.sasl_password") Text [] (codes "text")
+    ∷ option (codes "irc.server_default.sasl_fail") Text (codes "continue") (codes "continue, disconnect")
+    ∷ option (codes "irc.server_default.capabilities") Text [] (codes "words")
     ∷ []
 
 -- the options of each server, by the last part of their names
@@ -63,6 +67,10 @@ of_server =
     ∷ option (codes "autojoin") Text [] (codes "text")
     ∷ option (codes "autoconnect") Switch (codes "off") (codes "on, off")
     ∷ option (codes "tls") Switch (codes "on") (codes "on, off")
+    ∷ option (codes "sasl_username") Text [] (codes "text")
+    ∷ option (codes "sasl_password") Text [] (codes "text")
+    ∷ option (codes "sasl_fail") Text (codes "continue") (codes "continue, disconnect")
+    ∷ option (codes "capabilities") Text [] (codes "words")
     ∷ []
 
 -- the place of the option with a name

@@ -141,7 +141,7 @@ impl Options {
     }
 
     fn value_of_server(&self, name: &[u8], place: usize) -> Option<&Text>
-        requires { place < 8 }
+        requires { place < 12 }
         ensures { option_copied result ≡ value_at self.now (AtServer name.now place) }
     {
         match self.place_of(name) {
@@ -151,7 +151,7 @@ impl Options {
     }
 
     fn global_value(&self, place: usize) -> &Text
-        requires { place < 12 }
+        requires { place < 16 }
         ensures { result.now ≡ global_value self.now place }
     {
         match &self.set[place] {
@@ -161,7 +161,7 @@ impl Options {
     }
 
     fn server_value<'a>(&'a self, server: &'a Server, place: usize) -> &'a Text
-        requires { place < 8 }
+        requires { place < 12 }
         ensures { result.now ≡ server_value self.now server.now place }
     {
         match server.own(place) {
@@ -254,7 +254,7 @@ impl Options {
         name: &[u8],
         place: usize,
     ) -> Result<(), SetRefused>
-        requires { place < 8 }
+        requires { place < 12 }
         ensures after { OnOk result (self.new ≡ reset_at self.old (AtServer name.now place)) }
         ensures known { OnOk result (value_at self.old (AtServer name.now place) ≢ None) }
         ensures refused { IfErr result (λ refused. refused ≡ SetRefused.UnknownOption) }
@@ -329,7 +329,7 @@ impl Options {
     }
 
     fn put_global(&mut self, place: usize, value: Option<Text>)
-        requires place { place < 12 }
+        requires place { place < 16 }
         requires fits { Fits unset_at_first (row_at globals place) value }
         ensures { self.new ≡ record self.old { set = slice_set self.old.set place value } }
     {
@@ -338,7 +338,7 @@ impl Options {
 
     fn put_own(&mut self, found: usize, place: usize, value: Option<Text>)
         requires found { found < length self.old.servers }
-        requires place { place < 8 }
+        requires place { place < 12 }
         requires fits { Fits own_at_first (row_at of_server place) value }
         ensures { self.new ≡ record self.old {
           servers = slice_set self.old.servers found
@@ -356,7 +356,7 @@ impl Options {
         value: Text,
     ) -> Result<Changed, SetRefused>
         requires named { is_server_name name.now ≡ true }
-        requires place { place < 8 }
+        requires place { place < 12 }
         requires fits { Fits own_at_first (row_at of_server place) (Some value) }
         ensures after { OnOk result (self.new ≡ with_value_at self.old value
             (AtServer name.now place)) }
@@ -396,7 +396,7 @@ impl Options {
         requires named { is_server_name name.now ≡ true }
         requires absent { has_server name.now self.old.servers ≡ false }
         requires few { length self.old.servers < 64 }
-        requires place { place < 8 }
+        requires place { place < 12 }
         requires fits { Fits own_at_first (row_at of_server place) (Some value) }
         ensures after { OnOk result (self.new ≡ record self.old {
           servers = self.old.servers
@@ -416,7 +416,7 @@ impl Options {
 
 /// A new server with a value at one of its options.
 fn server_with(alloc: Global, name: &[u8], place: usize, value: Text) -> Result<Server, NoMemory>
-    requires { place < 8 }
+    requires { place < 12 }
     ensures { IfOk result
         (λ server. server ≡ with_own place (Some value) (fresh_server name.now)) }
 {

@@ -8,7 +8,7 @@ use std::marker::Model;
 use wc_text::{NoMemory, Text};
 
 /// How many options a server has.
-const COUNT: usize = 8;
+const COUNT: usize = 12;
 
 /// The place of `addresses` among them.
 const ADDRESSES: usize = 0;
@@ -31,7 +31,7 @@ impl Model for Server {
 /// The first value of an option of a server.
 #[tactic(auto, using(crate::proofs::TableLemmas::first_values))]
 pub(crate) fn own_at_first(alloc: Global, place: usize) -> Option<Text>
-    requires { place < 8 }
+    requires { place < 12 }
     ensures { result ≡ own_at_first (row_at of_server place) }
 {
     if place == ADDRESSES {
@@ -42,7 +42,7 @@ pub(crate) fn own_at_first(alloc: Global, place: usize) -> Option<Text>
 
 /// The places of the options of the program whose values the options of a server take where they
 /// have none of their own.
-const STANDS_FOR: [Option<usize>; 8] = [
+const STANDS_FOR: [Option<usize>; 12] = [
     None,
     Some(5),
     Some(7),
@@ -51,11 +51,15 @@ const STANDS_FOR: [Option<usize>; 8] = [
     Some(9),
     Some(10),
     Some(11),
+    Some(12),
+    Some(13),
+    Some(14),
+    Some(15),
 ];
 
 /// The option of the program that an option of a server stands for, by their places.
 pub(crate) fn stands_for(place: usize) -> Option<usize>
-    requires { place < 8 }
+    requires { place < 12 }
     ensures { result ≡ stands_for (row_at of_server place) }
 {
     STANDS_FOR[place]

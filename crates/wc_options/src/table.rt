@@ -29,10 +29,10 @@ const PORT: Kind = Kind::Number {
 };
 
 /// How many options the program has.
-pub(crate) const GLOBAL_COUNT: usize = 12;
+pub(crate) const GLOBAL_COUNT: usize = 16;
 
 /// The options of the program, in the order in which the file has them.
-pub(crate) const GLOBALS: [Row; 12] = [
+pub(crate) const GLOBALS: [Row; 16] = [
     Row {
         name: b"weechat.history.max_buffer_lines_number",
         kind: LINES,
@@ -105,11 +105,35 @@ pub(crate) const GLOBALS: [Row; 12] = [
         default: b"on",
         range: b"on, off",
     },
+    Row {
+        name: b"irc.server_default.sasl_username",
+        kind: Kind::Text,
+        default: b"",
+        range: b"text",
+    },
+    Row {
+        name: b"irc.server_default.sasl_password",
+        kind: Kind::Text,
+        default: b"",
+        range: b"text",
+    },
+    Row {
+        name: b"irc.server_default.sasl_fail",
+        kind: Kind::Text,
+        default: b"continue",
+        range: b"continue, disconnect",
+    },
+    Row {
+        name: b"irc.server_default.capabilities",
+        kind: Kind::Text,
+        default: b"",
+        range: b"words",
+    },
 ];
 
 /// The options that each server has, by the last part of their names, in the order in which the
 /// file has them.
-pub(crate) const OF_SERVER: [Row; 8] = [
+pub(crate) const OF_SERVER: [Row; 12] = [
     Row {
         name: b"addresses",
         kind: Kind::Endpoint,
@@ -158,6 +182,30 @@ pub(crate) const OF_SERVER: [Row; 8] = [
         default: b"on",
         range: b"on, off",
     },
+    Row {
+        name: b"sasl_username",
+        kind: Kind::Text,
+        default: b"",
+        range: b"text",
+    },
+    Row {
+        name: b"sasl_password",
+        kind: Kind::Text,
+        default: b"",
+        range: b"text",
+    },
+    Row {
+        name: b"sasl_fail",
+        kind: Kind::Text,
+        default: b"continue",
+        range: b"continue, disconnect",
+    },
+    Row {
+        name: b"capabilities",
+        kind: Kind::Text,
+        default: b"",
+        range: b"words",
+    },
 ];
 
 /// The place of an option of the program.
@@ -176,7 +224,7 @@ pub(crate) fn server_place(name: &[u8]) -> Option<usize>
 
 /// An option of the program.
 pub(crate) fn global_row(place: usize) -> Row
-    requires { place < 12 }
+    requires { place < 16 }
     ensures { row_of result ≡ row_at globals place }
 {
     row_in(&GLOBALS, place)
@@ -184,7 +232,7 @@ pub(crate) fn global_row(place: usize) -> Row
 
 /// An option of a server.
 pub(crate) fn server_row(place: usize) -> Row
-    requires { place < 8 }
+    requires { place < 12 }
     ensures { row_of result ≡ row_at of_server place }
 {
     row_in(&OF_SERVER, place)

@@ -60,7 +60,7 @@ impl Options {
 
 impl Server {
     fn write(&self, alloc: Global, text: &mut Text) -> Result<(), NoMemory>
-        requires { length self.now.own ≡ 8 }
+        requires { length self.now.own ≡ 12 }
         ensures { OnOk result (text.new ≡ text.old ++ text_of_lines (server_lines self.now)) }
     {
         let mut prefix = Text::new(alloc);

@@ -12,4 +12,4 @@ returns-clause-one_line c =
     c.on_command.ensures.acts
 
 pub returns-clause-spelled : goal.returns-clause-spelled
-returns-clause-spelled c = typed_spelled c.args.buffers.now c.args.buffer c.args.text.now c.on_command.ensures.held c.requires
+returns-clause-spelled c = typed_spelled c.args.buffers.now c.args.self.now c.args.buffer c.args.text.now c.on_command.ensures.held c.requires
