@@ -5,7 +5,7 @@ use Rattle.std.proofs.lemmas.Bool.{false≢true}
 use Rattle.wc_text.specs.declared.names.Handle.{Handle}
 use Rattle.wc_text.specs.declared.names.LinkId.{LinkId}
 use Rattle.wc_nickdiff.specs.Held.{OfBuffer, touches_of}
-use Rattle.wc_options.specs.Options.{OptionsValue}
+use Rattle.wc_session.specs.RequestContext.{Context}
 use Rattle.wc_outside.specs.Keyed.{at_key, put_at}
 use Rattle.wc_outside.proofs.KeyedLemmas.{at_key-put_same, at_key-key}
 use Rattle.wc_model.specs.declared.change.Change.{Change}
@@ -33,12 +33,16 @@ use Rattle.wc_board.proofs.PushEach.{open_number, number_more, none_left, all_is
 use Rattle.wc_text.specs.declared.names.Cause.TheVariants.{Surplus}
 use Rattle.wc_servers.specs.Seats.{ServersView, used_up}
 use Rattle.wc_core.specs.CoreView.{CoreView}
+use Rattle.wc_core.specs.Contexts.{context_in}
 use Rattle.wc_core.specs.BoardSteps.{board_of, Keeps}
+use Rattle.wc_core.specs.News.{hotlist_after, rows_after}
+use Rattle.wc_core.specs.declared.core_hotlist.News.{News}
+use Rattle.wc_hotlist.specs.declared.row.HotRow.{HotRow}
 use Rattle.wc_core.specs.Inputs.{MakesChange, push_before, AnswersRequestOf}
 use Rattle.wc_core.specs.Limits.{client_limit}
 use Rattle.wc_core.specs.Step.{client_link, no_step, push_step, request_step, line_step, arrival_step}
 use Rattle.wc_core.specs.Served.{AdmitsUnlessStarved, OutcomeUtf8, state_of}
-use Rattle.wc_core.proofs.CoreLemmas.{came-surplus, starves-only, came, changes-some, outcome-text, line-missing, line-leaving, line-asked, MadeOn}
+use Rattle.wc_core.proofs.CoreLemmas.{news_after, came-surplus, starves-only, came, changes-some, outcome-text, line-missing, line-leaving, line-asked, MadeOn}
 use Rattle.wc_core.proofs.DidLemmas.{KeepsClients-trans}
 use Rattle.wc_core.proofs.PushLemmas.{IsPushedCore, push-done, keeps-touches, same-told}
 use Rattle.wc_core.proofs.ReplyLemmas.{reply_fits}
@@ -141,10 +145,10 @@ client-same k old new before now same was is =
 
 -- ---- the answer
 
-answered-board : (k : ℕ) (options : OptionsValue) (request : Request) (result : Outcome) (old new : BoardView) (o : Option Connection) → AnsweredAt k options request result old new o → new ≡ record old { connections = new.connections }
-answered-board k options request result old new None answered = answered.stays ∙ ap (λ (b : BoardView). record old { connections = b.connections }) (sym answered.stays)
-answered-board k options request result old new (Some s) answered = by (is_open s) answered where
-  by : (t : Bool) → AnsweredIf t k options request result old new s → new ≡ record old { connections = new.connections }
+answered-board : (k : ℕ) (context : Context) (request : Request) (result : Outcome) (old new : BoardView) (o : Option Connection) → AnsweredAt k context request result old new o → new ≡ record old { connections = new.connections }
+answered-board k context request result old new None answered = answered.stays ∙ ap (λ (b : BoardView). record old { connections = b.connections }) (sym answered.stays)
+answered-board k context request result old new (Some s) answered = by (is_open s) answered where
+  by : (t : Bool) → AnsweredIf t k context request result old new s → new ≡ record old { connections = new.connections }
   by true answered = answered.put ∙ ap (λ (b : BoardView). record old { connections = b.connections }) (sym answered.put)
   by false answered = answered.stays ∙ ap (λ (b : BoardView). record old { connections = b.connections }) (sym answered.stays)
 
@@ -159,15 +163,15 @@ put-open k s y (x ∷ connections) same at = by (eqb (connection_link x) k) (λ 
   by false more a =
       number_more x (put_at connection_link k y connections) (is_open x) refl ∙ ap (λ n. cond (is_open x) (suc n) n) (more a) ∙ sym (number_more x connections (is_open x) refl)
 
-answered-open : (k : ℕ) (options : OptionsValue) (request : Request) (result : Outcome) (old new : BoardView) (o : Option Connection) → at_key connection_link k old.connections ≡ o → AnsweredAt k options request result old new o → open_number new.connections ≡ open_number old.connections
-answered-open k options request result old new None at answered = ap (λ (b : BoardView). open_number b.connections) answered.stays
-answered-open k options request result old new (Some s) at answered = by (is_open s) answered where
-  by : (t : Bool) → AnsweredIf t k options request result old new s → open_number new.connections ≡ open_number old.connections
+answered-open : (k : ℕ) (context : Context) (request : Request) (result : Outcome) (old new : BoardView) (o : Option Connection) → at_key connection_link k old.connections ≡ o → AnsweredAt k context request result old new o → open_number new.connections ≡ open_number old.connections
+answered-open k context request result old new None at answered = ap (λ (b : BoardView). open_number b.connections) answered.stays
+answered-open k context request result old new (Some s) at answered = by (is_open s) answered where
+  by : (t : Bool) → AnsweredIf t k context request result old new s → open_number new.connections ≡ open_number old.connections
   by true answered = ap (λ (b : BoardView). open_number b.connections) answered.put ∙ put-open k s (record s { session = answered.session }) old.connections refl at
   by false answered = ap (λ (b : BoardView). open_number b.connections) answered.stays
 
 -- a request is answered after what is pushed before it
-pub answers : (old : CoreView) (board : BoardView) (n k : ℕ) (request : Request) (result : Outcome) → AnswersAfterPushes k old.options request result (board_of old) board → Counted old board.connections n → AnswersRequestOf k request result old (with_board old board n)
+pub answers : (old : CoreView) (board : BoardView) (n k : ℕ) (request : Request) (result : Outcome) → AnswersAfterPushes k (context_in old) request result (board_of old) board → Counted old board.connections n → AnswersRequestOf k request result old (with_board old board n)
 answers old board n k request result is counted = record {
   between = with_board old between n;
   pushed = by (at_key connection_link k old.connections) is.pushed;
@@ -178,8 +182,8 @@ answers old board n k request result is counted = record {
   asker = λ opened shut. (let less = kept_less k old.connections between.connections kept opened shut in omega (arith, less));
   same = λ before now was here sits. client-same k old.connections between.connections before now (pushed-clients-same pushes (board_of old) between is.pushed) was here;
   world = pushed-world pushes (board_of old) between is.pushed;
-  options = refl;
-  answered = ap (λ (b : BoardView). with_board old b n) (answered-board k old.options request result between board (at_key connection_link k between.connections) is.answered);
+  context = refl;
+  answered = ap (λ (b : BoardView). with_board old b n) (answered-board k (context_in old) request result between board (at_key connection_link k between.connections) is.answered);
   board = is.answered;
 } where
   between : BoardView
@@ -189,7 +193,7 @@ answers old board n k request result is counted = record {
   pushes = pushes_before (at_key connection_link k old.connections) request.command
 
   opened : open_number board.connections ≡ open_number between.connections
-  opened = answered-open k old.options request result between board (at_key connection_link k between.connections) refl is.answered
+  opened = answered-open k (context_in old) request result between board (at_key connection_link k between.connections) refl is.answered
 
   now : Counted old between.connections n
   now = (let P : ℕ → Type 0 = λ m. (n ≡ raised old.starved (open_number old.connections - m)) × (old.starved ≤ n) in subst P opened counted)
@@ -209,11 +213,11 @@ answers old board n k request result is counted = record {
 none-open : is_open_at None ≡ true → ⊥
 none-open e = false≢true e
 
-open-answered : (k : ℕ) (options : OptionsValue) (request : Request) (result : Outcome) (between new : BoardView) (o : Option Connection) → at_key connection_link k between.connections ≡ o → RequestIsUtf8 request → AnsweredAt k options request result between new o
+open-answered : (k : ℕ) (context : Context) (request : Request) (result : Outcome) (between new : BoardView) (o : Option Connection) → at_key connection_link k between.connections ≡ o → RequestIsUtf8 request → AnsweredAt k context request result between new o
     → OnServed result (is_open_at (at_key connection_link k new.connections) ≡ true)
-open-answered k options request result between new None at utf8 answered = let P : Outcome → Type 0 = λ r. OnServed r (is_open_at (at_key connection_link k new.connections) ≡ true) in subst P (sym answered.starves) tt
-open-answered k options request result between new (Some s) at utf8 answered = by (is_open s) refl answered where
-  by : (t : Bool) → is_open s ≡ t → AnsweredIf t k options request result between new s → OnServed result (is_open_at (at_key connection_link k new.connections) ≡ true)
+open-answered k context request result between new None at utf8 answered = let P : Outcome → Type 0 = λ r. OnServed r (is_open_at (at_key connection_link k new.connections) ≡ true) in subst P (sym answered.starves) tt
+open-answered k context request result between new (Some s) at utf8 answered = by (is_open s) refl answered where
+  by : (t : Bool) → is_open s ≡ t → AnsweredIf t k context request result between new s → OnServed result (is_open_at (at_key connection_link k new.connections) ≡ true)
   by false sits answered = let P : Outcome → Type 0 = λ r. OnServed r (is_open_at (at_key connection_link k new.connections) ≡ true) in subst P (sym answered.starves) tt
   by true sits answered = of result answered.answered where
     put : new.connections ≡ put_at connection_link k (record s { session = answered.session }) between.connections
@@ -224,30 +228,30 @@ open-answered k options request result between new (Some s) at utf8 answered = b
         let key : client_link answered.session.client ≡ k = ap (λ (l : LinkId). l.0) same ∙ at_key-key connection_link k between.connections s at in
         ap (λ connections. is_open_at (at_key connection_link k connections)) put ∙ ap is_open_at (at_key-put_same connection_link k s (record s { session = answered.session }) between.connections key at) ∙ sits
 
-    link : (r : Outcome) → AnswersRequest s.session answered.session r (reply_of between.world options s.session.client request) → answered.session.client.link ≡ s.session.client.link
-    link r a = ap (λ (c : Client). c.link) a.client ∙ (reply_fits between.world options s.session.client request utf8).link
+    link : (r : Outcome) → AnswersRequest s.session answered.session r (reply_of between.world context s.session.client request) → answered.session.client.link ≡ s.session.client.link
+    link r a = ap (λ (c : Client). c.link) a.client ∙ (reply_fits between.world context s.session.client request utf8).link
 
-    of : (r : Outcome) → OnServed r (AnswersRequest s.session answered.session r (reply_of between.world options s.session.client request)) → OnServed r (is_open_at (at_key connection_link k new.connections) ≡ true)
+    of : (r : Outcome) → OnServed r (AnswersRequest s.session answered.session r (reply_of between.world context s.session.client request)) → OnServed r (is_open_at (at_key connection_link k new.connections) ≡ true)
     of outcome.Replied a = opens (link outcome.Replied a)
     of outcome.Silent a = opens (link outcome.Silent a)
     of (outcome.Input buffer text) a = opens (link (outcome.Input buffer text) a)
     of (outcome.Leave why) a = opens (link (outcome.Leave why) a)
     of outcome.NoMemory a = tt
 
-text-answered : (k : ℕ) (options : OptionsValue) (request : Request) (result : Outcome) (between new : BoardView) (o : Option Connection) → RequestIsUtf8 request → AnsweredAt k options request result between new o → OutcomeUtf8 result
-text-answered k options request result between new None utf8 answered = subst OutcomeUtf8 (sym answered.starves) tt
-text-answered k options request result between new (Some s) utf8 answered = by (is_open s) answered where
-  by : (t : Bool) → AnsweredIf t k options request result between new s → OutcomeUtf8 result
+text-answered : (k : ℕ) (context : Context) (request : Request) (result : Outcome) (between new : BoardView) (o : Option Connection) → RequestIsUtf8 request → AnsweredAt k context request result between new o → OutcomeUtf8 result
+text-answered k context request result between new None utf8 answered = subst OutcomeUtf8 (sym answered.starves) tt
+text-answered k context request result between new (Some s) utf8 answered = by (is_open s) answered where
+  by : (t : Bool) → AnsweredIf t k context request result between new s → OutcomeUtf8 result
   by false answered = subst OutcomeUtf8 (sym answered.starves) tt
-  by true answered = outcome-text between.world options s.session.client request s.session answered.session result utf8 answered.answered
+  by true answered = outcome-text between.world context s.session.client request s.session answered.session result utf8 answered.answered
 
 -- who asked is open after the answer, unless it found no memory
 pub asked-open : (k : ℕ) (request : Request) (result : Outcome) (old new : CoreView) → RequestIsUtf8 request → AnswersRequestOf k request result old new → OnServed result (is_open_at (at_key connection_link k new.connections) ≡ true)
-asked-open k request result old new utf8 is = open-answered k old.options request result (board_of is.between) (board_of new) (at_key connection_link k is.between.connections) refl utf8 is.board
+asked-open k request result old new utf8 is = open-answered k (context_in old) request result (board_of is.between) (board_of new) (at_key connection_link k is.between.connections) refl utf8 is.board
 
 -- what it asked to be typed is text
 pub asked-text : (k : ℕ) (request : Request) (result : Outcome) (old new : CoreView) → RequestIsUtf8 request → AnswersRequestOf k request result old new → OutcomeUtf8 result
-asked-text k request result old new utf8 is = text-answered k old.options request result (board_of is.between) (board_of new) (at_key connection_link k is.between.connections) utf8 is.board
+asked-text k request result old new utf8 is = text-answered k (context_in old) request result (board_of is.between) (board_of new) (at_key connection_link k is.between.connections) utf8 is.board
 
 -- ---- lines
 
@@ -279,16 +283,16 @@ more : (old : CoreView) (board : BoardView) (new : CoreView) (before : ℕ) → 
 more old board new before e rises = (let same = ap (λ (c : CoreView). c.starved) e in omega (arith, same, rises))
 
 -- after a request
-pub answers-counted : (old : CoreView) (board : BoardView) (new : CoreView) (before k : ℕ) (request : Request) (result : Outcome) → AnswersAfterPushes k old.options request result (board_of old) board → new ≡ record (with_board old board old.starved) { starved = count_since old board.connections before }
+pub answers-counted : (old : CoreView) (board : BoardView) (new : CoreView) (before k : ℕ) (request : Request) (result : Outcome) → AnswersAfterPushes k (context_in old) request result (board_of old) board → new ≡ record (with_board old board old.starved) { starved = count_since old board.connections before }
     → before ≡ open_number old.connections → old.starved ≤ new.starved → AnswersRequestOf k request result old new
 answers-counted old board new before k request result is e same rises =
     let P : CoreView → Type 0 = λ new. AnswersRequestOf k request result old new in
     subst P (sym e) (answers old board (count_since old board.connections before) k request result is (counted-as old board.connections before same (more old board new before e rises)))
 
 -- as many are open after a request as before at most
-pub answers-open : (old board : BoardView) (k : ℕ) (options : OptionsValue) (request : Request) (result : Outcome) → AnswersAfterPushes k options request result old board → open_number board.connections ≤ open_number old.connections
-answers-open old board k options request result is =
-    let opened = answered-open k options request result is.between board (at_key connection_link k is.between.connections) refl is.answered in
+pub answers-open : (old board : BoardView) (k : ℕ) (context : Context) (request : Request) (result : Outcome) → AnswersAfterPushes k context request result old board → open_number board.connections ≤ open_number old.connections
+answers-open old board k context request result is =
+    let opened = answered-open k context request result is.between board (at_key connection_link k is.between.connections) refl is.answered in
     let less = (kept_dropped old.connections is.between.connections (pushed-kept (pushes_before (at_key connection_link k old.connections) request.command) old is.between is.pushed)).less in
     omega (arith, opened, less)
 
@@ -313,11 +317,19 @@ surplus-by told old servers link nonce full used =
     let Q : ServersView → Type 0 = λ servers. AdmitsUnlessStarved told link.0 old (record old { servers = servers }) (Some Surplus) (arrival_step (state_of old told) link.0 nonce) in
     subst Q (sym used) (came-surplus told old link nonce full)
 
-pub changed-some : (old : CoreView) (board : BoardView) (new : CoreView) (before : ℕ) (change : Change) (notice : Notice) → MadeOn old board.world board.pending change notice → NoticeServed board.world notice old.connections board.connections
-    → new ≡ record (with_board old board old.starved) { starved = count_since old board.connections before } → before ≡ open_number old.connections → old.starved ≤ new.starved → MakesChange old change new
-changed-some old board new before change notice made served e same rises =
-    let c = counted-as old board.connections before same (more old board new before e rises) in
-    changes-some old new board.world board.pending board.connections (count_since old board.connections before) change notice made served e c.0 c.1
+-- the hotlist heeds what was read of a change
+heeded : (old mid new : CoreView) (k : ℕ) (news : News) (change : Change) → mid ≡ record old { starved = k } → new ≡ record mid { hotlist = rows_after mid.hotlist news } → ((rows : List HotRow) → rows_after rows news ≡ hotlist_after rows change.buffer change.what)
+    → new ≡ record old { hotlist = news_after old change; starved = k }
+heeded old mid new k news change counts heeds reads =
+    heeds ∙ ap (λ (core : CoreView). record core { hotlist = rows_after core.hotlist news }) counts ∙ ap (λ rows. record old { hotlist = rows; starved = k }) (reads old.hotlist)
+
+pub changed-some : (old : CoreView) (board : BoardView) (mid new : CoreView) (before : ℕ) (change : Change) (news : News) (notice : Notice) → MadeOn old board.world board.pending change notice → NoticeServed board.world notice old.connections board.connections
+    → mid ≡ record (with_board old board old.starved) { starved = count_since old board.connections before } → before ≡ open_number old.connections → old.starved ≤ mid.starved
+    → ((rows : List HotRow) → rows_after rows news ≡ hotlist_after rows change.buffer change.what) → new ≡ record mid { hotlist = rows_after mid.hotlist news } → MakesChange old change new
+changed-some old board mid new before change news notice made served e same rises reads heeds =
+    let k = count_since old board.connections before in
+    let c = counted-as old board.connections before same (more old board mid before e rises) in
+    changes-some old new board.world board.pending board.connections k change notice made served (heeded (with_board old board old.starved) mid new k news change e heeds reads) c.0 c.1
 
 -- nobody is dropped as a client comes
 pub came-counts : (old : CoreView) (board : BoardView) (servers : ServersView) (link : LinkId) (nonce : List ℕ) → board ≡ record (board_of old) { connections = old.connections ++ new_connection link nonce ∷ [] } → Counts 0 old (with_board (record old { servers = servers }) board old.starved)

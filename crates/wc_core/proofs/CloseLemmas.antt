@@ -15,7 +15,7 @@ use Rattle.wc_text.specs.declared.names.Handle.{Handle}
 use Rattle.wc_buffers.specs.Calls.{is_there}
 use Rattle.wc_model.specs.Order.{order}
 use Rattle.wc_model.specs.Apply.{after}
-use Rattle.wc_core.specs.Resolved.{Effect, Stays, Ends as ResolvedEnds, Tells, Asks, SetsOption, UnsetsOption, SavesOptions, effect_of, option_text}
+use Rattle.wc_core.specs.Resolved.{Effect, Stays, Ends as ResolvedEnds, Tells, Asks, SetsOption, UnsetsOption, SavesOptions, ChangesHotlist, effect_of, option_text}
 use Rattle.wc_options.specs.Options.{refusal_of, value_of}
 use Rattle.wc_options.specs.declared.refusal.SetRefused.{SetRefused}
 use Rattle.wc_options.specs.declared.refusal.SetRefused.TheVariants.{UnknownOption}
@@ -85,6 +85,7 @@ resolved-closes j state (Asks change) = then-closes j (before_step state change)
 resolved-closes j state (SetsOption name value) = after_limit-closes j state (limit_set name value) (λ next. set_step next name value) (λ next. sets-closes j next name value)
 resolved-closes j state (UnsetsOption name) = after_limit-closes j state (limit_unset name) (λ next. unset_step next name) (λ next. unsets-closes j next name)
 resolved-closes j state SavesOptions = refl
+resolved-closes j state (ChangesHotlist usage buffer) = refl
 
 pub does-closes : (j : ℕ) (state : State) (buffer : Handle) (typed : TypedCommand) → close_of j (typed_step state buffer typed).acts ≡ None
 does-closes j state buffer typed = resolved-closes j state (effect_of state.world state.moment buffer typed)

@@ -19,6 +19,7 @@ use Rattle.wc_session.specs.Reply.{Answer, reply_of}
 use Rattle.wc_session.specs.Served.{OnServed, OnNoMemory, AnswersRequest}
 use Rattle.wc_board.specs.declared.connection.Connection.{Connection}
 use Rattle.wc_core.specs.CoreView.{CoreView}
+use Rattle.wc_core.specs.Contexts.{context_in, context_of}
 use Rattle.wc_core.specs.BoardSteps.{board_of, BoardStep, AnswersClient, Answers, Loses, Tells, IsBy, StepsBy}
 use Rattle.wc_core.proofs.BoardStepLemmas.{steps-one, by-same, by-one, by-both}
 use Rattle.wc_text.specs.declared.names.Handle.{Handle}
@@ -30,13 +31,15 @@ use Rattle.wc_model.specs.Apply.{refusal, after}
 use Rattle.wc_model.specs.Notices.{Accepted}
 use Rattle.wc_model.specs.Touches.{told_after}
 use Rattle.wc_nickdiff.specs.Held.{OfBuffer}
-use Rattle.wc_options.specs.Options.{OptionsValue}
+use Rattle.wc_session.specs.RequestContext.{Context}
+use Rattle.wc_core.specs.News.{hotlist_after}
 use Rattle.wc_core.specs.Typed.{TypedCommand}
+use Rattle.wc_hotlist.specs.declared.row.HotRow.{HotRow}
 use Rattle.wc_core.specs.Resolved.{Effect, effect_of, refusal_text, told_refusal}
 use Rattle.wc_core.specs.Inputs.{MakesChange, RefusesChange, push_before, AnswersRequestOf}
 use Rattle.wc_core.specs.Limits.{client_limit}
 use Rattle.wc_core.specs.State.{State, Act, Stepped, Closes, has_end, outs_of}
-use Rattle.wc_core.specs.Step.{client_link, no_step, then_does, push_step, reply_step, sends, tell_all_step, change_step, change_step_if, refusal_step, ask_step_if, ask_step, effect_step, typed_step, leave_step, arrival_step, outcome_step, answer_step, request_step, line_step}
+use Rattle.wc_core.specs.Step.{client_link, no_step, then_does, push_step, reply_step, sends, tell_all_step, with_hotlist, change_step, change_step_if, refusal_step, ask_step_if, ask_step, effect_step, typed_step, leave_step, arrival_step, outcome_step, answer_step, request_step, line_step}
 use Rattle.wc_board.specs.Connections.{connection_link, is_open, is_open_at, leaving_on, left_if, left_at}
 use Rattle.wc_core.specs.Served.{clients_of, WereTold, close_of, LeavesBy, AdmitsUnlessStarved, OutcomeUtf8, plain_beside, Follows, KeepsClients, or_else, state_of}
 use Rattle.wc_board.specs.Served.{StaysOrStarves, told_connection, NoticeServed, ConnectionsKept}
@@ -57,7 +60,7 @@ use Rattle.wc_board.proofs.ConnectionLemmas.{ConnectionsKept-causes}
 use Rattle.wc_board.proofs.PushEach.{open_number}
 use Rattle.wc_servers.proofs.OutLemmas.{ServersFollow-refl}
 use Rattle.wc_board.proofs.PartLemmas.{notice_map, notice_kept}
-use Rattle.wc_core.proofs.ServeLemmas.{open_none, told_to_all, told-left, Follows-told, KeepsClients-told, KeepsClients-put, reply-left, Follows-reply, leave-left, Follows-leave}
+use Rattle.wc_core.proofs.ServeLemmas.{open_none, told_to_all, told-left, Follows-told, KeepsClients-told, with_rows, KeepsClients-put, reply-left, Follows-reply, leave-left, Follows-leave}
 use Rattle.wc_core.proofs.ReplyLemmas.{reply_fits}
 use Rattle.wc_core.proofs.PushLemmas.{Runs-over}
 use Rattle.wc_core.specs.Contained.{Rest, state_with, first_stage, last_stage, RunsBy, RunsAt, RunsFor, Runs, RanOutOfMemory, RanOutFor, Counts, Holds, IsDone, LosesAsker, LosesAskerIf, RunsHere, beside_in, want_number, rest_in, starving_number, raised, starved_by}
@@ -101,33 +104,37 @@ starves-as old new e rises told stepped = RunsAt-starved told old new stepped (s
 -- ---- notices
 
 -- what is told is done, whoever is dropped meanwhile
-told-done : (told : Rest) (told' : Told) (old : CoreView) (world : World) (pending : List OfBuffer) (connections : List Connection) (starved : ℕ) (n : Notice) → AreTold world pending (told_of told')
-    → IsDone told old (record old { world = world; pending = pending; connections = connections; starved = starved }) (tell_all_step (state_with old told) told' world n)
-told-done told told' old world pending connections starved n were =
-    let new : CoreView = record old { world = world; pending = pending; connections = connections; starved = starved } in
+told-done : (told : Rest) (told' : Told) (old : CoreView) (rows : List HotRow) (world : World) (pending : List OfBuffer) (connections : List Connection) (starved : ℕ) (n : Notice) → AreTold world pending (told_of told')
+    → IsDone told old (record old { world = world; pending = pending; connections = connections; hotlist = rows; starved = starved }) (tell_all_step (with_hotlist (state_with old told) rows) told' world n)
+told-done told told' old rows world pending connections starved n were =
+    let new : CoreView = record old { world = world; pending = pending; connections = connections; hotlist = rows; starved = starved } in
     record {
       holds = record { same = refl; told = were };
       is_on = inr refl;
       oracle = refl;
       quits = sym (ap (λ t. old.quits || t) (end-told world n told.clients) ∙ or-false old.quits);
-      servers = no-outs old new (tell_all_step (state_with old told) told' world n).acts refl (outs-told world n told.clients);
+      servers = no-outs old new (tell_all_step (with_hotlist (state_with old told) rows) told' world n).acts refl (outs-told world n told.clients);
     }
 
-told-all : (told : Rest) (told' : Told) (old : CoreView) (world : World) (pending : List OfBuffer) (n : Notice) → BoardStep (board_of old) (board_of (told_to_all old world pending n)) → StepsBy None (board_of old) (board_of (told_to_all old world pending n)) → (WereTold old (beside_in told) → AreTold world pending (told_of told'))
-    → RunsAt told old (told_to_all old world pending n) (tell_all_step (state_with old told) told' world n)
-told-all told told' old world pending n step board were =
-    let new : CoreView = told_to_all old world pending n in
-    let of : List Client → Stepped = λ clients. tell_all_step (record (state_with old told) { clients = clients }) told' world n in
+told-all : (told : Rest) (told' : Told) (old : CoreView) (rows : List HotRow) (world : World) (pending : List OfBuffer) (n : Notice) → BoardStep (board_of old) (board_of (told_to_all old world pending n)) → StepsBy None (board_of old) (board_of (told_to_all old world pending n)) → (WereTold old (beside_in told) → AreTold world pending (told_of told'))
+    → RunsAt told old (told_to_all (with_rows old rows) world pending n) (tell_all_step (with_hotlist (state_with old told) rows) told' world n)
+told-all told told' old rows world pending n step board were =
+    let new : CoreView = told_to_all (with_rows old rows) world pending n in
+    let of : List Client → Stepped = λ clients. tell_all_step (record (with_hotlist (state_with old told) rows) { clients = clients }) told' world n in
     RunsAt-exact told old new of
     (KeepsClients-told old new (steps-one (board_of old) (board_of new) step) (notice_kept world n old.connections (map (told_connection world n) old.connections) (notice_map world n old.connections)) (omega arith) (inl (refl, refl)) (ServersKeep-refl old.servers) refl)
     board
     (counts-none old new (told_starving world n old.connections) refl refl)
-    (λ distinct. told-left (beside_in told) told' old world n) (λ distinct before. Follows-told (beside_in told) told' old world pending n distinct (were before))
-    (λ distinct before. told-done told told' old world pending (map (told_connection world n) old.connections) old.starved n (were before))
+    (λ distinct. told-left (beside_in told) told' old world n) (λ distinct before. Follows-told (beside_in told) told' old rows world pending n distinct (were before))
+    (λ distinct before. told-done told told' old rows world pending (map (told_connection world n) old.connections) old.starved n (were before))
 
 -- the rows that were told after a change
 abbrev rows_after : CoreView → Change → Rest → Told
 rows_after old change told = told_after old.world change.buffer change.what told.rows
+
+-- the hotlist after a change
+abbrev pub news_after : CoreView → Change → List HotRow
+news_after old change = hotlist_after old.hotlist change.buffer change.what
 
 -- what a board says of a change that it made
 pub record MadeOn (old : CoreView) (world : World) (pending : List OfBuffer) (change : Change) (n : Notice) : Type 0 where
@@ -142,24 +149,32 @@ were_after old world pending change n made told before =
     let Q : World → Type 0 = λ w. AreBuffers w.groups in
     subst P (sym made.accepted.after) (change_keeps_told old.world change old.pending pending told.rows made.accepted.accepted (subst Q made.accepted.after made.are) made.stray made.touched before)
 
+-- the step of a change by what its notice says
+abbrev noted_step : CoreView → Change → Rest → World → Notice → Stepped
+noted_step old change told world n = tell_all_step (with_hotlist (state_with old told) (news_after old change)) (rows_after old change told) world n
+
 -- what is so of the notice that was told is so of the change
-as_change : (P : Stepped → Type 0) (old : CoreView) (world : World) (change : Change) (n : Notice) (told : Rest) → Accepted old.world change world n → P (tell_all_step (state_with old told) (rows_after old change told) world n) → P (change_step (state_with old told) change)
+as_change : (P : Stepped → Type 0) (old : CoreView) (world : World) (change : Change) (n : Notice) (told : Rest) → Accepted old.world change world n → P (noted_step old change told world n) → P (change_step (state_with old told) change)
 as_change P old world change n told accepted is =
-    let Q : World → Type 0 = λ w. P (tell_all_step (state_with old told) (rows_after old change told) w n) in
-    let R : Notice → Type 0 = λ n. P (tell_all_step (state_with old told) (rows_after old change told) (after old.world change) n) in
+    let Q : World → Type 0 = λ w. P (noted_step old change told w n) in
+    let R : Notice → Type 0 = λ n. P (noted_step old change told (after old.world change) n) in
     subst R accepted.notice (subst Q accepted.after is)
 
 -- the board made a change, and told it to all whom its notice is for
-told-change : (old : CoreView) (world : World) (pending : List OfBuffer) (change : Change) (n : Notice) → MadeOn old world pending change n → Runs old (told_to_all old world pending n) (λ state. change_step state change)
+told-change : (old : CoreView) (world : World) (pending : List OfBuffer) (change : Change) (n : Notice) → MadeOn old world pending change n → Runs old (told_to_all (with_rows old (news_after old change)) world pending n) (λ state. change_step state change)
 told-change old world pending change n made = λ told.
-    let new : CoreView = told_to_all old world pending n in
+    let new : CoreView = told_to_all (with_rows old (news_after old change)) world pending n in
     let step : BoardStep (board_of old) (board_of new) =
     Tells (record { change = change; notice = n; accepted = made.accepted; touched = made.touched; each = notice_map world n old.connections }) in
-    as_change (λ stepped. RunsAt told old new stepped) old world change n told made.accepted (told-all told (rows_after old change told) old world pending n step (by-one (board_of old) (board_of new) step tt) (were_after old world pending change n made told))
+    as_change (λ stepped. RunsAt told old new stepped) old world change n told made.accepted (told-all told (rows_after old change told) old (news_after old change) world pending n step (by-one (board_of old) (board_of new) step tt) (were_after old world pending change n made told))
+
+-- the core after a change that was made and told, and that the hotlist heeds
+abbrev pub changed_core : CoreView → Change → World → List OfBuffer → List Connection → ℕ → CoreView
+changed_core old change world pending connections k = record old { world = world; pending = pending; connections = connections; hotlist = news_after old change; starved = k }
 
 -- some may have found no memory for it, each of whom is counted
 some-change : (old : CoreView) (world : World) (pending : List OfBuffer) (connections : List Connection) (k : ℕ) (change : Change) (n : Notice) → MadeOn old world pending change n → NoticeServed world n old.connections connections
-    → k ≡ raised old.starved (open_number old.connections - open_number connections) → old.starved ≤ k → Runs old (record old { world = world; pending = pending; connections = connections; starved = k }) (λ state. change_step state change)
+    → k ≡ raised old.starved (open_number old.connections - open_number connections) → old.starved ≤ k → Runs old (changed_core old change world pending connections k) (λ state. change_step state change)
 some-change old world pending connections k change n made served count rises = λ told. record {
   keeps = KeepsClients-told old new (steps-one (board_of old) (board_of new) (Tells (record { change = change; notice = n; accepted = made.accepted; touched = made.touched; each = served }))) kept rises (inl (refl, refl)) (ServersKeep-refl old.servers) refl;
   board = by-one (board_of old) (board_of new) (Tells (record { change = change; notice = n; accepted = made.accepted; touched = made.touched; each = served })) tt;
@@ -169,16 +184,16 @@ some-change old world pending connections k change n made served count rises = �
       let none : dropped ≡ 0 = raised-none old.starved dropped below (sym count ∙ same) in
       let less = are.less in
       let all : connections ≡ map (told_connection world n) old.connections = served_none world n old.connections connections served (omega (arith, none, less)) in
-      let C : List Connection → CoreView = λ connections. record old { world = world; pending = pending; connections = connections; starved = k } in
+      let C : List Connection → CoreView = λ connections. changed_core old change world pending connections k in
       let P : List Connection → Type 0 = λ connections. Follows (beside_in told) old (C connections) (change_step (state_with old told) change) in
       let g = (told-change old world pending change n made told).does here refl below distinct were agrees in
       subst P (sym all) (record { means = record { same = g.means.same; told = g.means.told }; oracle = g.oracle; bytes = g.bytes; leaving = g.leaving; quits = g.quits; servers = g.servers; parts = g.parts });
   contains = λ below distinct were agrees.
-      let d = as_change (λ stepped. IsDone told old new stepped) old world change n told made.accepted (told-done told (rows_after old change told) old world pending connections k n (were_after old world pending change n made told were)) in
+      let d = as_change (λ stepped. IsDone told old new stepped) old world change n told made.accepted (told-done told (rows_after old change told) old (news_after old change) world pending connections k n (were_after old world pending change n made told were)) in
       record { whole = λ same. d; quits = λ over. sym d.quits ∙ over; part = record { stage = last_stage (change_step (state_with old told) change); is_on = d.is_on; holds = d.holds; servers = d.servers } };
 } where
   new : CoreView
-  new = record old { world = world; pending = pending; connections = connections; starved = k }
+  new = changed_core old change world pending connections k
 
   dropped : ℕ
   dropped = open_number old.connections - open_number connections
@@ -190,7 +205,7 @@ some-change old world pending connections k change n made served count rises = �
   are = kept_dropped old.connections connections kept
 
 pub changes-some : (old new : CoreView) (world : World) (pending : List OfBuffer) (connections : List Connection) (k : ℕ) (change : Change) (n : Notice) → MadeOn old world pending change n → NoticeServed world n old.connections connections
-    → new ≡ record old { world = world; pending = pending; connections = connections; starved = k } → k ≡ raised old.starved (open_number old.connections - open_number connections) → old.starved ≤ k → MakesChange old change new
+    → new ≡ changed_core old change world pending connections k → k ≡ raised old.starved (open_number old.connections - open_number connections) → old.starved ≤ k → MakesChange old change new
 changes-some old new world pending connections k change n made served e count rises =
     let P : CoreView → Type 0 = λ c. Runs old c (λ state. change_step state change) in
     inl (made.accepted.accepted, subst P (sym e) (some-change old world pending connections k change n made served count rises))
@@ -399,11 +414,11 @@ ask-answer old new k s session' answer result step own at sits same answered don
 
 -- the client is answered
 answered_steps : (old : CoreView) (k : ℕ) (s : Connection) (session' : Known) (request : Request) (result : Outcome) → at_key connection_link k old.connections ≡ Some s → is_open s ≡ true
-    → OnServed result (AnswersRequest s.session session' result (reply_of old.world old.options s.session.client request)) → OnNoMemory result (session' ≡ s.session) → AnswersClient (board_of old) (board_of (replied old k session'))
+    → OnServed result (AnswersRequest s.session session' result (reply_of old.world (context_in old) s.session.client request)) → OnNoMemory result (session' ≡ s.session) → AnswersClient (board_of old) (board_of (replied old k session'))
 answered_steps old k s session' request result at sits answered same = record {
   link = k;
   connection = s;
-  options = old.options;
+  context = context_in old;
   request = request;
   result = result;
   at = at;
@@ -422,14 +437,14 @@ put-same k s connections at = put_at-same connection_link k connections s at
 
 -- a request of an open client, whose answer was followed
 pub ask-served : (old new : CoreView) (k : ℕ) (s : Connection) (session' : Known) (request : Request) (result : Outcome) → at_key connection_link k old.connections ≡ Some s → is_open s ≡ true → RequestIsUtf8 request
-    → OnServed result (AnswersRequest s.session session' result (reply_of old.world old.options s.session.client request)) → OnNoMemory result (session' ≡ s.session)
+    → OnServed result (AnswersRequest s.session session' result (reply_of old.world (context_in old) s.session.client request)) → OnNoMemory result (session' ≡ s.session)
     → OnServed result (RunsFor (Some k) (replied old k session') new (λ state. outcome_step state k result)) → OnNoMemory result (LosesAsker k (replied old k session') new) → old.starved ≤ new.starved
     → RunsFor (Some k) old new (λ state. reply_step state s.session.client request)
 unfolding answered_steps
-ask-served old new k s session' request outcome.Replied at sits utf8 answered same done lost rises = ask-answer old new k s session' (reply_of old.world old.options s.session.client request) outcome.Replied (Answers (answered_steps old k s session' request outcome.Replied at sits answered same)) refl at sits (reply_fits old.world old.options s.session.client request utf8).link answered done
-ask-served old new k s session' request outcome.Silent at sits utf8 answered same done lost rises = ask-answer old new k s session' (reply_of old.world old.options s.session.client request) outcome.Silent (Answers (answered_steps old k s session' request outcome.Silent at sits answered same)) refl at sits (reply_fits old.world old.options s.session.client request utf8).link answered done
-ask-served old new k s session' request (outcome.Input buffer text) at sits utf8 answered same done lost rises = ask-answer old new k s session' (reply_of old.world old.options s.session.client request) (outcome.Input buffer text) (Answers (answered_steps old k s session' request (outcome.Input buffer text) at sits answered same)) refl at sits (reply_fits old.world old.options s.session.client request utf8).link answered done
-ask-served old new k s session' request (outcome.Leave why) at sits utf8 answered same done lost rises = ask-answer old new k s session' (reply_of old.world old.options s.session.client request) (outcome.Leave why) (Answers (answered_steps old k s session' request (outcome.Leave why) at sits answered same)) refl at sits (reply_fits old.world old.options s.session.client request utf8).link answered done
+ask-served old new k s session' request outcome.Replied at sits utf8 answered same done lost rises = ask-answer old new k s session' (reply_of old.world (context_in old) s.session.client request) outcome.Replied (Answers (answered_steps old k s session' request outcome.Replied at sits answered same)) refl at sits (reply_fits old.world (context_in old) s.session.client request utf8).link answered done
+ask-served old new k s session' request outcome.Silent at sits utf8 answered same done lost rises = ask-answer old new k s session' (reply_of old.world (context_in old) s.session.client request) outcome.Silent (Answers (answered_steps old k s session' request outcome.Silent at sits answered same)) refl at sits (reply_fits old.world (context_in old) s.session.client request utf8).link answered done
+ask-served old new k s session' request (outcome.Input buffer text) at sits utf8 answered same done lost rises = ask-answer old new k s session' (reply_of old.world (context_in old) s.session.client request) (outcome.Input buffer text) (Answers (answered_steps old k s session' request (outcome.Input buffer text) at sits answered same)) refl at sits (reply_fits old.world (context_in old) s.session.client request utf8).link answered done
+ask-served old new k s session' request (outcome.Leave why) at sits utf8 answered same done lost rises = ask-answer old new k s session' (reply_of old.world (context_in old) s.session.client request) (outcome.Leave why) (Answers (answered_steps old k s session' request (outcome.Leave why) at sits answered same)) refl at sits (reply_fits old.world (context_in old) s.session.client request utf8).link answered done
 ask-served old new k s session' request outcome.NoMemory at sits utf8 answered same done lost rises =
     let C : Known → CoreView = λ session. replied old k session in
     let D : List Connection → CoreView = λ connections. record old { connections = connections } in
@@ -440,13 +455,13 @@ ask-served old new k s session' request outcome.NoMemory at sits utf8 answered s
     Runs-starved old new (λ state. reply_step state s.session.client request) (asker-starves old new k opened (subst P stays lost) rises)
 
 -- the text that a request types is text
-pub outcome-text : (world : World) (options : OptionsValue) (client : Client) (request : Request) (old new : Known) (result : Outcome) → RequestIsUtf8 request
-    → OnServed result (AnswersRequest old new result (reply_of world options client request)) → OutcomeUtf8 result
-outcome-text world options client request old new outcome.Replied utf8 answered = tt
-outcome-text world options client request old new outcome.Silent utf8 answered = tt
-outcome-text world options client request old new (outcome.Input buffer text) utf8 answered = subst OutcomeUtf8 (sym answered.outcome) (reply_fits world options client request utf8).text
-outcome-text world options client request old new (outcome.Leave why) utf8 answered = tt
-outcome-text world options client request old new outcome.NoMemory utf8 answered = tt
+pub outcome-text : (world : World) (context : Context) (client : Client) (request : Request) (old new : Known) (result : Outcome) → RequestIsUtf8 request
+    → OnServed result (AnswersRequest old new result (reply_of world context client request)) → OutcomeUtf8 result
+outcome-text world context client request old new outcome.Replied utf8 answered = tt
+outcome-text world context client request old new outcome.Silent utf8 answered = tt
+outcome-text world context client request old new (outcome.Input buffer text) utf8 answered = subst OutcomeUtf8 (sym answered.outcome) (reply_fits world context client request utf8).text
+outcome-text world context client request old new (outcome.Leave why) utf8 answered = tt
+outcome-text world context client request old new outcome.NoMemory utf8 answered = tt
 
 request-parts : (client : Client) (request : Request) (state : State) → request_step state client (Some request) ≡ then_does (push_before client request state) (λ next. reply_step next client request)
 request-parts client request state = by (client.logged_in && is_nicklist request.command) where
@@ -473,26 +488,26 @@ answer-shut between mid new k result e starves stays lost shut =
     let same : mid ≡ between = e ∙ ap (λ (connections : List Connection). record between { connections = connections }) stays in
     (shut, subst R shut (subst Q same (subst P starves lost)))
 
--- whom a reply closes hangs on the world and the options alone
-reply-closes-same : (j : ℕ) (client : Client) (request : Request) (s t : State) → s.world ≡ t.world → s.options ≡ t.options → close_of j (reply_step s client request).acts ≡ close_of j (reply_step t client request).acts
-reply-closes-same j client request s t world options =
+-- whom a reply closes hangs on the world and what it is answered from beside it alone
+reply-closes-same : (j : ℕ) (client : Client) (request : Request) (s t : State) → s.world ≡ t.world → context_of s ≡ context_of t → close_of j (reply_step s client request).acts ≡ close_of j (reply_step t client request).acts
+reply-closes-same j client request s t world context =
     let k = client_link client in
     let of : State → Answer → List Act = λ state answer. (answer_step state k answer).acts in
-    let a = reply_of s.world s.options client request in
-    let b = reply_of t.world t.options client request in
-    let same : a ≡ b = ap (λ w. reply_of w s.options client request) world ∙ ap (λ o. reply_of t.world o client request) options in
+    let a = reply_of s.world (context_of s) client request in
+    let b = reply_of t.world (context_of t) client request in
+    let same : a ≡ b = ap (λ w. reply_of w (context_of s) client request) world ∙ ap (λ c. reply_of t.world c client request) context in
     ap (λ answer. close_of j (of s answer)) same ∙ answer-closes-same j k b s t
 
 -- the answer to a request that may have found no memory
 answer-done : (between mid new : CoreView) (k : ℕ) (client : Client) (request : Request) (result : Outcome) (o : Option Connection) → at_key connection_link k between.connections ≡ o → ((now : Connection) → o ≡ Some now → is_open now ≡ true → now.session.client ≡ client)
     → RequestIsUtf8 request → mid ≡ record between { connections = mid.connections }
-    → AnsweredAt k between.options request result (record { world = between.world; pending = between.pending; connections = between.connections }) (record { world = mid.world; pending = mid.pending; connections = mid.connections }) o
+    → AnsweredAt k (context_in between) request result (record { world = between.world; pending = between.pending; connections = between.connections }) (record { world = mid.world; pending = mid.pending; connections = mid.connections }) o
     → OnServed result (RunsFor (Some k) mid new (λ state. outcome_step state k result)) → OnNoMemory result (LosesAsker k mid new) → between.starved ≤ new.starved → RunsFor (Some k) between new (λ state. reply_step state client request) ⊎ CutAfterwards k between new
 answer-done between mid new k client request result None at same utf8 e answered done lost rises = inr (answer-shut between mid new k result e answered.starves (ap (λ (b : BoardView). b.connections) answered.stays) lost (ap is_open_at at))
 answer-done between mid new k client request result (Some now) at same utf8 e answered done lost rises = by (is_open now) refl answered
   where
     by : (t : Bool) → is_open now ≡ t
-        → AnsweredIf t k between.options request result (record { world = between.world; pending = between.pending; connections = between.connections }) (record { world = mid.world; pending = mid.pending; connections = mid.connections }) now
+        → AnsweredIf t k (context_in between) request result (record { world = between.world; pending = between.pending; connections = between.connections }) (record { world = mid.world; pending = mid.pending; connections = mid.connections }) now
         → RunsFor (Some k) between new (λ state. reply_step state client request) ⊎ CutAfterwards k between new
     by false sits answered = inr (answer-shut between mid new k result e answered.starves (ap (λ (b : BoardView). b.connections) answered.stays) lost (ap is_open_at at ∙ sits))
     by true sits answered =
@@ -510,9 +525,9 @@ push_before-world client request state = by (client.logged_in && is_nicklist req
   by true = refl
   by false = refl
 
-push_before-options : (client : Client) (request : Request) (state : State) → (push_before client request state).state.options ≡ state.options
-push_before-options client request state = by (client.logged_in && is_nicklist request.command) where
-  by : (b : Bool) → (cond b (push_step state) (no_step state)).state.options ≡ state.options
+push_before-context : (client : Client) (request : Request) (state : State) → context_of (push_before client request state).state ≡ context_of state
+push_before-context client request state = by (client.logged_in && is_nicklist request.command) where
+  by : (b : Bool) → context_of (cond b (push_step state) (no_step state)).state ≡ context_of state
   by true = refl
   by false = refl
 
@@ -565,13 +580,13 @@ ask-done old mid new k request result opened is utf8 done lost rises = by (at_ke
 
         reply : RunsFor (Some k) is.between new next ⊎ CutAfterwards k is.between new
         reply =
-            let Q : OptionsValue → Type 0 = λ options. AnsweredAt k options request result (record { world = is.between.world; pending = is.between.pending; connections = is.between.connections }) (record { world = mid.world; pending = mid.pending; connections = mid.connections }) (at_key connection_link k is.between.connections) in
-            answer-done is.between mid new k client request result (at_key connection_link k is.between.connections) refl (λ now here sits. is.same s now at here sits) utf8 is.answered (subst Q (sym is.options) is.board) done lost less
+            let Q : Context → Type 0 = λ context. AnsweredAt k context request result (record { world = is.between.world; pending = is.between.pending; connections = is.between.connections }) (record { world = mid.world; pending = mid.pending; connections = mid.connections }) (at_key connection_link k is.between.connections) in
+            answer-done is.between mid new k client request result (at_key connection_link k is.between.connections) refl (λ now here sits. is.same s now at here sits) utf8 is.answered (subst Q (sym is.context) is.board) done lost less
 
         whole : (told : Rest) → RunsFor (Some k) is.between new next ⊎ CutAfterwards k is.between new → RunsBy (Some k) told old new (then_does (push_before client request (state_with old told)) next)
         whole told (inl run) =
             let first = push_before client request (state_with old told) in
-            let closes : ClosesLater is.between first next = record { first_none = λ j. pushes_before-closes j client request (state_with old told); same = λ j. reply-closes-same j client request (state_of is.between (beside first.state)) first.state (is.world ∙ sym (push_before-world client request (state_with old told))) (is.options ∙ sym (push_before-options client request (state_with old told))) } in
+            let closes : ClosesLater is.between first next = record { first_none = λ j. pushes_before-closes j client request (state_with old told); same = λ j. reply-closes-same j client request (state_of is.between (beside first.state)) first.state (is.world ∙ sym (push_before-world client request (state_with old told))) (is.context ∙ sym (push_before-context client request (state_with old told))) } in
             RunsAt-then told old is.between new first next closes is.uncut (RunsBy-any (Some k) told old is.between first (pushed told)) run
         whole told (inr cut) =
             cut-after-pushes told old is.between new k (push_before client request (state_with old told)) next (λ j. pushes_before-closes j client request (state_with old told)) is.uncut drops (counts-after-drops old is.between new is.dropped some is.left is.counted is.uncut cut.1) (RunsBy-any (Some k) told old is.between (push_before client request (state_with old told)) (pushed told)) cut.1

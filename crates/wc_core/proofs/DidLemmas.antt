@@ -190,10 +190,10 @@ FollowsUnlessStarved-then told a b c first next closes f done = record {
 -- ---- what stays
 
 pub ChangesBuffers-trans : (a b c : CoreView) → ChangesBuffers a b → ChangesBuffers b c → ChangesBuffers a c
-ChangesBuffers-trans a b c f g = let F : CoreView → CoreView = λ core. record core { world = c.world; pending = c.pending; connections = c.connections; starved = c.starved; cuts = c.cuts } in g ∙ ap F f
+ChangesBuffers-trans a b c f g = let F : CoreView → CoreView = λ core. record core { world = c.world; pending = c.pending; connections = c.connections; hotlist = c.hotlist; starved = c.starved; cuts = c.cuts } in g ∙ ap F f
 
 pub ChangesServers-trans : (a b c : CoreView) → ChangesServers a b → ChangesServers b c → ChangesServers a c
-ChangesServers-trans a b c f g = let F : CoreView → CoreView = λ core. record core { world = c.world; pending = c.pending; connections = c.connections; servers = c.servers; starved = c.starved; cuts = c.cuts } in g ∙ ap F f
+ChangesServers-trans a b c f g = let F : CoreView → CoreView = λ core. record core { world = c.world; pending = c.pending; connections = c.connections; hotlist = c.hotlist; servers = c.servers; starved = c.starved; cuts = c.cuts } in g ∙ ap F f
 
 pub changes-servers : (a b : CoreView) → ChangesBuffers a b → ChangesServers a b
 changes-servers a b e =

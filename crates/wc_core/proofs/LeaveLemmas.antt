@@ -1,23 +1,31 @@
 -- For what the loss of a server is asked for by what it says, or by what is typed for it.
 use Rattle.std.proofs.Common.{◌≡◌, ◌⊎◌, inl, inr, ℕ, Bool, true, false, cond, ◌&&◌, List, [], ◌∷◌, ◌++◌, codes, Option, Some, None, refl, ◌∙◌}
-use Rattle.std.specs.Prelude.{map, flat_map, option_map, option_and_then}
+use Rattle.std.specs.Prelude.{map, flat_map, length, nat_le, option_map, option_and_then}
 use Rattle.wc_text.specs.declared.names.Cause.{Cause}
 use Rattle.wc_text.specs.declared.names.Cause.TheVariants as cause
 use Rattle.wc_text.specs.declared.names.Handle.{Handle}
+use Rattle.wc_text.specs.Splits.{word_of}
 use Rattle.wc_buffers.specs.Calls.{EntryGroups, buffer_of, vars_at}
 use Rattle.wc_buffers.specs.Groups.{rows}
 use Rattle.wc_buffers.specs.declared.row.BufferRow.{BufferRow}
 use Rattle.wc_ircmsg.specs.declared.case_map.CaseMap.{CaseMap}
 use Rattle.wc_ircmsg.specs.declared.message.Message.{Message}
 use Rattle.wc_ircmsg.specs.declared.prefixes.Prefixes.{Prefixes}
+use Rattle.wc_ircmsg.specs.Written.{line_of}
 use Rattle.wc_irc_texts.specs.Groups.{group_names}
 use Rattle.wc_irc_texts.specs.ModeBits.{highest}
 use Rattle.wc_irc_texts.specs.Modes.{ModeChange, mode_changes}
 use Rattle.wc_irc_texts.specs.Names.{is_channel, is_nick}
+use Rattle.wc_irc_texts.specs.Negotiation.{login_step, listed, granted, has_sasl}
+use Rattle.wc_irc_texts.specs.Parts.{parts}
 use Rattle.wc_irc_texts.specs.Rows.{param, params_from}
+use Rattle.wc_irc_texts.specs.Sasl.{login_pieces}
 use Rattle.wc_irc_texts.specs.Texts.{in_one_line}
 use Rattle.wc_irc_texts.specs.declared.kind.MessageKind.{MessageKind}
 use Rattle.wc_irc_texts.specs.declared.kind.MessageKind.TheVariants as kind
+use Rattle.wc_irc_texts.specs.declared.login_step.LoginStep.{LoginStep}
+use Rattle.wc_irc_texts.specs.declared.login_step.LoginStep.TheVariants as steps
+use Rattle.wc_irc_texts.specs.declared.negotiation.Negotiation.{Negotiation}
 use Rattle.wc_irc_texts.specs.declared.seat.Seat.{Seat}
 use Rattle.wc_irc_words.specs.Typed.{ServerCommand, asked_of}
 use Rattle.wc_irc.specs.declared.act.Act.{Act}
@@ -27,13 +35,16 @@ use Rattle.wc_irc.specs.ChannelActs.{comes, come, join_line, join_on, join_in, o
 use Rattle.wc_irc.specs.ChannelStates.{channel_at, may_have}
 use Rattle.wc_irc.specs.Channels.{Joined}
 use Rattle.wc_irc.specs.CloseActs.{disconnect_acts}
-use Rattle.wc_irc.specs.CommandActs.{Place, Errand, Refuses, Sends, Speaks, SendsLine, Opens, place_in, errand_of, told_in, refusal, if_linked, sent_message, speech, acts_of_errand, acts_of_line, linked_in, acts_of_typed, acts_of_unlinked}
+use Rattle.wc_irc.specs.CommandActs.{Place, Errand, Refuses, Sends, Speaks, Notifies, SendsLine, Opens, SendsBoth, place_in, errand_of, if_linked, acts_of_errand, acts_of_line, linked_in, acts_of_typed, acts_of_unlinked}
+use Rattle.wc_irc.specs.LongTexts.{room_for, text_to, speech, wrapped, sent_parts, deed_room, long_speech, speech_acts, long_notice, notify_acts}
+use Rattle.wc_irc.specs.SentLines.{told_in, refusal, too_long, sent_message, fits_line, line_acts, both_acts}
 use Rattle.wc_irc.specs.LinkActs.{pass_acts, user_act, first_acts}
+use Rattle.wc_irc.specs.LoginActs.{cap_act, end_act, asking_act, failure_act, refusal_act, acts_of_step}
 use Rattle.wc_irc.specs.ModeActs.{modes_after, with_change, moved, change_acts, changes_acts, mode_moves, mode_line, mode_on, mode_acts, same_place}
 use Rattle.wc_irc.specs.NameActs.{seats_in, placed, placed_all, names_in, names_acts}
 use Rattle.wc_irc.specs.NewBuffers.{opened, name_or}
 use Rattle.wc_irc.specs.NickActs.{add_group, add_groups, remove_nick, emptied}
-use Rattle.wc_irc.specs.OwnSpeech.{own_line, own_talk, acts_of_own, own_speech}
+use Rattle.wc_irc.specs.OwnSpeech.{own_line, own_talk, hides, shown_text, acts_of_own, own_speech, own_lines, private_lines, own_texts, shown_parts}
 use Rattle.wc_irc.specs.RenameActs.{come_again, nick_line, rename_on, rename_as, rename_of, renamed_buffer, rename_private, own_var, own_vars, nick_acts}
 use Rattle.wc_irc.specs.ServerActs.{acts_of_kind, kind_to, acts_of_server}
 use Rattle.wc_irc.specs.Servers.{ServerState, is_own, own_nick_from, next_nick, may_try}
@@ -185,9 +196,42 @@ noticed groups s m =
     let heard = found groups s (aimed s (param 0 m)) in
     either (is_channel s.features.chan_types (aimed s (param 0 m))) (on_found heard (λ buffer. notice_line m buffer ∷ [])) _ (where_found heard (λ buffer. notice_line m buffer ∷ []) (λ buffer. refl)) refl
 
--- what a server says asks for its loss where its nicks are taken, and else not
+-- what a server says asks for its loss where its nicks are taken or it lets none in, and else not
 abbrev pub MayLeave : Cause → Option Cause → Type 0
 MayLeave why o = (o ≡ None) ⊎ (o ≡ Some why)
+
+-- what is said as it logs in does so where it lets none in
+
+asking : (names : List (List ℕ)) → Stays (asking_act names ∷ [])
+asking [] = refl
+asking (name ∷ names) = refl
+
+failing : (strict : Bool) → MayLeave cause.NickTaken (leave_in (cond strict (act.Leave cause.NickTaken) end_act ∷ []))
+failing true = inr refl
+failing false = inl refl
+
+refused : (n : Negotiation) → MayLeave cause.NickTaken (leave_in (refusal_act n ∷ []))
+refused n = by (has_sasl n.offered) where
+  by : (t : Bool) → MayLeave cause.NickTaken (leave_in (cond t (failure_act n) end_act ∷ []))
+  by true = failing n.is_strict
+  by false = inl refl
+
+granting : (sasl : Bool) → Stays (cond sasl (sent (codes "AUTHENTICATE") (codes "PLAIN")) end_act ∷ [])
+granting true = refl
+granting false = refl
+
+step-leaves : (s : ServerState) (m : Message) (step : LoginStep) → MayLeave cause.NickTaken (leave_in (acts_of_step s m step))
+unfolding acts_of_step
+step-leaves s m steps.Foreign = inl refl
+step-leaves s m steps.Nothing = inl refl
+step-leaves s m steps.Lists = inl refl
+step-leaves s m steps.EndsList = inl (asking (listed s.negotiation m))
+step-leaves s m steps.Grants = inl (granting (has_sasl (granted s.negotiation m)))
+step-leaves s m steps.Refuses = refused s.negotiation
+step-leaves s m steps.TakesAway = inl refl
+step-leaves s m steps.AsksProof = inl (alone (sent (codes "AUTHENTICATE")) (login_pieces s.negotiation.user s.negotiation.password) (λ piece acts. refl))
+step-leaves s m steps.Admits = inl refl
+step-leaves s m steps.Rejects = failing s.negotiation.is_strict
 
 kind-leaves : (groups : EntryGroups) (s : ServerState) (m : Message) (k : MessageKind) → MayLeave cause.NickTaken (leave_in (acts_of_kind groups s m k))
 unfolding acts_of_kind
@@ -212,17 +256,19 @@ kind-leaves groups s m kind.Privmsg = inl (spoken groups s m (talk_heard m))
 kind-leaves groups s m kind.Notice = inl (noticed groups s m)
 kind-leaves groups s m kind.Ping = inl refl
 kind-leaves groups s m kind.Error = inl refl
-kind-leaves groups s m kind.Other = inl refl
+kind-leaves groups s m kind.Other = step-leaves s m (login_step s.negotiation m)
 
 pub server-leaves : (groups : EntryGroups) (s : ServerState) (m : Message) → MayLeave cause.NickTaken (leave_in (acts_of_server groups s m))
 server-leaves groups s m = kind-leaves groups s m (kind_to s m)
 
 -- as its link stands it doesn't
 pub first-leaves : (s : ServerState) → leave_in (first_acts s) ≡ None
-first-leaves s = by s.password where
-  by : (password : List ℕ) → Stays (pass_acts password ++ sent (codes "NICK") s.nick ∷ user_act s ∷ [])
-  by [] = refl
-  by (b ∷ password) = refl
+first-leaves s = by s.negotiation.is_used s.password where
+  by : (used : Bool) (password : List ℕ) → Stays (cond used (cap_act (codes "LS") (codes "302") ∷ []) [] ++ pass_acts password ++ sent (codes "NICK") s.nick ∷ user_act s ∷ [])
+  by true [] = refl
+  by true (b ∷ password) = refl
+  by false [] = refl
+  by false (b ∷ password) = refl
 
 -- ---- what is typed
 
@@ -255,16 +301,83 @@ own_stays groups s target does text =
     one false buffer = refl
 
 owns : (groups : EntryGroups) (s : ServerState) (target : List ℕ) (talk : Talk) → Stays (acts_of_own groups s target talk)
-owns groups s target (Says text) = own_stays groups s target false text
+owns groups s target (Says text) = own_stays groups s target false (shown_text target text)
 owns groups s target (Does deed) = own_stays groups s target true deed
 owns groups s target (Requests word) = refl
+
+-- ---- the parts of a text
+
+own_line-stays : (s : ServerState) (target : List ℕ) (does : Bool) (text buffer : List ℕ) (acts : List Act) → leave_in (own_line s target does text buffer ∷ acts) ≡ leave_in acts
+own_line-stays s target true text buffer acts = refl
+own_line-stays s target false text buffer acts = refl
+
+own_lines-stay : (s : ServerState) (target : List ℕ) (does : Bool) (texts : List (List ℕ)) (buffer : List ℕ) → Stays (own_lines s target does texts buffer)
+own_lines-stay s target does texts buffer = alone (λ text. own_line s target does text buffer) texts (λ text acts. own_line-stays s target does text buffer acts)
+
+texts-stay : (groups : EntryGroups) (s : ServerState) (target : List ℕ) (does : Bool) (texts : List (List ℕ)) → Stays (own_texts groups s target does texts)
+texts-stay groups s target does texts =
+    let there = found groups s target in
+    let heard = found groups s (aimed s target) in
+    let name = name_or there (full_name s.name target) in
+    either (is_channel s.features.chan_types (aimed s target)) (on_found heard (own_lines s target does texts)) (private_lines s target does texts there)
+    (where_found heard (own_lines s target does texts) (λ buffer. own_lines-stay s target does texts buffer))
+    (both (opened there (codes "private") s target) (own_lines s target does texts name) (opening there (codes "private") s target) (own_lines-stay s target does texts name))
+
+shown-stay : (groups : EntryGroups) (s : ServerState) (target text : List ℕ) (texts : List (List ℕ)) → Stays (shown_parts groups s target text texts)
+shown-stay groups s target text texts =
+    either (hides target text) (own_talk groups s target false (shown_text target text)) (own_texts groups s target false texts) (own_stays groups s target false (shown_text target text)) (texts-stay groups s target false texts)
+
+parts-stay : (command target : List ℕ) (does : Bool) (texts : List (List ℕ)) → Stays (sent_parts command target does texts)
+parts-stay command target does texts = alone (λ text. sent_message (text_to command target (wrapped does text))) texts (λ text acts. refl)
+
+long-stays : (groups : EntryGroups) (s : ServerState) (target : List ℕ) (room : ℕ) (talk : Talk) → Stays (long_speech groups s target room talk)
+long-stays groups s target room (Says text) =
+    let texts = parts room text in
+    let said = sent_parts (codes "PRIVMSG") target false texts in
+    let shown = shown_parts groups s target text texts in
+    either (nat_le 4 room) (said ++ shown) (too_long groups (codes "PRIVMSG")) (both said shown (parts-stay (codes "PRIVMSG") target false texts) (shown-stay groups s target text texts)) (refuses groups _)
+long-stays groups s target room (Does deed) =
+    let left = deed_room room in
+    let texts = parts left deed in
+    let said = sent_parts (codes "PRIVMSG") target true texts in
+    let shown = own_texts groups s target true texts in
+    either (nat_le 4 left) (said ++ shown) (too_long groups (codes "PRIVMSG")) (both said shown (parts-stay (codes "PRIVMSG") target true texts) (texts-stay groups s target true texts)) (refuses groups _)
+long-stays groups s target room (Requests word) = refuses groups _
+
+speech-stays : (groups : EntryGroups) (s : ServerState) (target text : List ℕ) → Stays (speech_acts groups s target text)
+speech-stays groups s target text =
+    let room = room_for s (codes "PRIVMSG") target in
+    either (nat_le (length text) room) (sent_message (speech target text) ∷ own_speech groups s target text) (long_speech groups s target room (talk_of text)) (owns groups s target (talk_of text)) (long-stays groups s target room (talk_of text))
+
+notify-stays : (groups : EntryGroups) (s : ServerState) (target text : List ℕ) → Stays (notify_acts groups s target text)
+notify-stays groups s target text =
+    let room = room_for s (codes "NOTICE") target in
+    let texts = parts room text in
+    either (nat_le (length text) room) (sent_message (text_to (codes "NOTICE") target text) ∷ []) (long_notice groups target room text) refl
+    (either (nat_le 4 room) (sent_parts (codes "NOTICE") target false texts) (too_long groups (codes "NOTICE")) (parts-stay (codes "NOTICE") target false texts) (refuses groups _))
+
+-- ---- lines
+
+sent-stays : (groups : EntryGroups) (line : List ℕ) → Stays (line_acts groups line)
+sent-stays groups line = either (fits_line line) (act.Send line ∷ []) (too_long groups (word_of line)) refl (refuses groups _)
+
+both-stay : (groups : EntryGroups) (first second : List ℕ) → Stays (both_acts groups first second)
+both-stay groups first second =
+    by (fits_line first) (fits_line second)
+  where
+    by : (t u : Bool) → Stays (cond t (cond u (act.Send first ∷ act.Send second ∷ []) (too_long groups (word_of second))) (too_long groups (word_of first)))
+    by true true = refl
+    by true false = refuses groups _
+    by false u = refuses groups _
 
 errand-stays : (groups : EntryGroups) (link : Option ServerState) (errand : Errand) → Stays (acts_of_errand groups link errand)
 unfolding acts_of_errand
 errand-stays groups link (Refuses text) = refuses groups text
-errand-stays groups link (Sends m) = linked-stays groups link (λ s. sent_message m ∷ []) (λ s. refl)
-errand-stays groups link (Speaks target text) = linked-stays groups link (λ s. sent_message (speech target text) ∷ own_speech groups s target text) (λ s. owns groups s target (talk_of text))
-errand-stays groups link (SendsLine line) = linked-stays groups link (λ s. act.Send line ∷ []) (λ s. refl)
+errand-stays groups link (Sends m) = linked-stays groups link (λ s. line_acts groups (line_of m)) (λ s. sent-stays groups (line_of m))
+errand-stays groups link (Speaks target text) = linked-stays groups link (λ s. speech_acts groups s target text) (λ s. speech-stays groups s target text)
+errand-stays groups link (Notifies target text) = linked-stays groups link (λ s. notify_acts groups s target text) (λ s. notify-stays groups s target text)
+errand-stays groups link (SendsLine line) = linked-stays groups link (λ s. line_acts groups line) (λ s. sent-stays groups line)
+errand-stays groups link (SendsBoth m n) = linked-stays groups link (λ s. both_acts groups (line_of m) (line_of n)) (λ s. both-stay groups (line_of m) (line_of n))
 errand-stays groups link (Opens nick) = linked-stays groups link (λ s. opened (found groups s nick) (codes "private") s nick) (λ s. opening (found groups s nick) (codes "private") s nick)
 
 line-stays : (groups : EntryGroups) (link : Option ServerState) (place : Place) (line : List ℕ) → Stays (acts_in (acts_of_line groups link place line))
@@ -273,9 +386,9 @@ line-stays groups link place line = by (asked_of line) where
   of None = refl
   of (Some errand) = errand-stays groups link errand
 
-  by : (o : Option ServerCommand) → Stays (acts_in (option_and_then (λ command. option_map (acts_of_errand groups link) (errand_of place command)) o))
+  by : (o : Option ServerCommand) → Stays (acts_in (option_and_then (λ command. option_map (acts_of_errand groups link) (errand_of link place command)) o))
   by None = refl
-  by (Some command) = of (errand_of place command)
+  by (Some command) = of (errand_of link place command)
 
 pub typed-leaves : (groups : EntryGroups) (s : ServerState) (buffer : Handle) (text : List ℕ) → leave_in (acts_in (acts_of_typed groups s buffer text)) ≡ None
 unfolding acts_of_typed

@@ -27,6 +27,8 @@ pub mod AnswerLemmas
 pub mod StartLemmas
 pub mod EvalLemmas
 pub mod MessageLemmas
+pub mod NamesLaw
+pub mod NewsLemmas
 pub mod OptionLemmas
 pub mod AskedLemmas
 pub mod TypedTexts

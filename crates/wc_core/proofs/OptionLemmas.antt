@@ -173,7 +173,19 @@ global_ranges = (
                     ascii_text (codes "text") refl,
                     (
                       ascii_text (codes "on, off") refl,
-                      (ascii_text (codes "on, off") refl, tt),
+                      (
+                        ascii_text (codes "on, off") refl,
+                        (
+                          ascii_text (codes "text") refl,
+                          (
+                            ascii_text (codes "text") refl,
+                            (
+                              ascii_text (codes "continue, disconnect") refl,
+                              (ascii_text (codes "words") refl, tt),
+                            ),
+                          ),
+                        ),
+                      ),
                     ),
                   ),
                 ),
@@ -202,7 +214,19 @@ server_ranges = (
             ascii_text (codes "text") refl,
             (
               ascii_text (codes "on, off") refl,
-              (ascii_text (codes "on, off") refl, tt),
+              (
+                ascii_text (codes "on, off") refl,
+                (
+                  ascii_text (codes "text") refl,
+                  (
+                    ascii_text (codes "text") refl,
+                    (
+                      ascii_text (codes "continue, disconnect") refl,
+                      (ascii_text (codes "words") refl, tt),
+                    ),
+                  ),
+                ),
+              ),
             ),
           ),
         ),

@@ -18,7 +18,7 @@ use Rattle.wc_session.specs.Handshakes.{choice_in, algorithm_for, asks_escapes}
 use Rattle.wc_session.specs.Logins.{pairs_let_in}
 use Rattle.wc_session.specs.Names.{buffer_named}
 use Rattle.wc_session.specs.Sync.{synchronized, desynchronized}
-use Rattle.wc_options.specs.Options.{OptionsValue}
+use Rattle.wc_session.specs.RequestContext.{Context}
 use Rattle.wc_session.specs.Heeded.{password_of, masks_of}
 use Rattle.wc_session.specs.Reply.{Answer, silent, leaves, replies, shaken, handshake_reply, handshake_answer, init_answer, typed_into, input_answer, is_open, served, reply_of}
 use Rattle.wc_core.specs.Served.{OutcomeUtf8}
@@ -77,24 +77,24 @@ desynchronized_link : (groups : EntryGroups) (client : Client) (buffers : List (
 unfolding desynchronized
 desynchronized_link groups client buffers options = refl
 
-served_fits : (world : World) (options : OptionsValue) (client : Client) (id : List ℕ) (command : Command) → CommandUtf8 command → Fits client (served world options client id command)
+served_fits : (world : World) (context : Context) (client : Client) (id : List ℕ) (command : Command) → CommandUtf8 command → Fits client (served world context client id command)
 unfolding served CommandUtf8
-served_fits world options client id (ask.Handshake pairs) utf8 = handshake_fits (masks_of options) client id pairs
-served_fits world options client id (ask.Init pairs) utf8 = init_fits (masks_of options) (password_of options) client pairs
-served_fits world options client id (ask.Hdata path keys) utf8 = replies_fits client client _ refl
-served_fits world options client id (ask.Info name) utf8 = replies_fits client client _ refl
-served_fits world options client id (ask.Infolist name argument) utf8 = replies_fits client client _ refl
-served_fits world options client id (ask.Nicklist buffer) utf8 = replies_fits client client _ refl
-served_fits world options client id (ask.Input buffer text) utf8 = input_fits world.groups client buffer text utf8.1
-served_fits world options client id (ask.Completion buffer position text) utf8 = replies_fits client client _ refl
-served_fits world options client id (ask.Sync buffers asked) utf8 = silent_fits client (synchronized world.groups client buffers asked) (synchronized_link world.groups client buffers asked)
-served_fits world options client id (ask.Desync buffers asked) utf8 = silent_fits client (desynchronized world.groups client buffers asked) (desynchronized_link world.groups client buffers asked)
-served_fits world options client id ask.Test utf8 = replies_fits client client _ refl
-served_fits world options client id (ask.Ping text) utf8 = replies_fits client client _ refl
-served_fits world options client id ask.Quit utf8 = record { link = refl; text = tt }
+served_fits world context client id (ask.Handshake pairs) utf8 = handshake_fits (masks_of context.options) client id pairs
+served_fits world context client id (ask.Init pairs) utf8 = init_fits (masks_of context.options) (password_of context.options) client pairs
+served_fits world context client id (ask.Hdata path keys) utf8 = replies_fits client client _ refl
+served_fits world context client id (ask.Info name) utf8 = replies_fits client client _ refl
+served_fits world context client id (ask.Infolist name argument) utf8 = replies_fits client client _ refl
+served_fits world context client id (ask.Nicklist buffer) utf8 = replies_fits client client _ refl
+served_fits world context client id (ask.Input buffer text) utf8 = input_fits world.groups client buffer text utf8.1
+served_fits world context client id (ask.Completion buffer position text) utf8 = replies_fits client client _ refl
+served_fits world context client id (ask.Sync buffers asked) utf8 = silent_fits client (synchronized world.groups client buffers asked) (synchronized_link world.groups client buffers asked)
+served_fits world context client id (ask.Desync buffers asked) utf8 = silent_fits client (desynchronized world.groups client buffers asked) (desynchronized_link world.groups client buffers asked)
+served_fits world context client id ask.Test utf8 = replies_fits client client _ refl
+served_fits world context client id (ask.Ping text) utf8 = replies_fits client client _ refl
+served_fits world context client id ask.Quit utf8 = record { link = refl; text = tt }
 
-pub reply_fits : (world : World) (options : OptionsValue) (client : Client) (request : Request) → RequestIsUtf8 request → Fits client (reply_of world options client request)
+pub reply_fits : (world : World) (context : Context) (client : Client) (request : Request) → RequestIsUtf8 request → Fits client (reply_of world context client request)
 unfolding reply_of
-reply_fits world options client request utf8 =
-    if_fits client (client.logged_in || is_open request.command) (served world options client request.id request.command) (leaves client cause.LoginFailed)
-    (served_fits world options client request.id request.command utf8.command) (record { link = refl; text = tt })
+reply_fits world context client request utf8 =
+    if_fits client (client.logged_in || is_open request.command) (served world context client request.id request.command) (leaves client cause.LoginFailed)
+    (served_fits world context client request.id request.command utf8.command) (record { link = refl; text = tt })

@@ -24,8 +24,8 @@ use Rattle.wc_model.specs.World.{World, last_handle}
 use Rattle.wc_model.specs.Touches.{touched_key}
 use Rattle.wc_model.specs.Apply.{or_else, of_buffers, refusal_of_handles, is_held, no_line, row_of, refusal_of, refusal}
 use Rattle.wc_world.specs.Texts.{IsChangeText}
-use Rattle.wc_core.specs.Typed.{TypedCommand, Nothing, Quits, Refused, Others, Prints, Adds, Closes, Merges, Names, Changes, Sets, Unsets, Switches, Saves, typed_line, Evaluates}
-use Rattle.wc_core.specs.Resolved.{Effect, Stays, Ends, Tells, Asks, SetsOption, UnsetsOption, SavesOptions, switched, buffer_meant, no_such_buffer, of_meant, of_named, change_of, line_spec, core_spec, plugin_in, rename_of, effect_of, buffer_text, refusal_text, told_refusal}
+use Rattle.wc_core.specs.Typed.{TypedCommand, Nothing, Quits, Refused, Others, Prints, Adds, Closes, Merges, Names, Changes, Sets, Unsets, Switches, Saves, UsesHotlist, typed_line, Evaluates}
+use Rattle.wc_core.specs.Resolved.{Effect, Stays, Ends, Tells, Asks, SetsOption, UnsetsOption, SavesOptions, ChangesHotlist, switched, buffer_meant, no_such_buffer, of_meant, of_named, change_of, line_spec, core_spec, plugin_in, rename_of, effect_of, buffer_text, refusal_text, told_refusal}
 use Rattle.wc_core.specs.Texts.{WhatUtf8}
 use Rattle.wc_core.proofs.TypedLemmas.{ascii_text, TypedUtf8, typed_utf8}
 use Rattle.wc_core.proofs.ResolvedWords.{plugin_before}
@@ -41,6 +41,7 @@ ResolvedUtf8 (Asks change) = WhatUtf8 change.what
 ResolvedUtf8 (SetsOption name value) = IsUtf8 name × IsUtf8 value
 ResolvedUtf8 (UnsetsOption name) = IsUtf8 name
 ResolvedUtf8 SavesOptions = Unit {0}
+ResolvedUtf8 (ChangesHotlist usage buffer) = Unit {0}
 
 meant_text : (change : Handle → Change) → ((b : Handle) → WhatUtf8 (change b).what) → (o : Option Handle) → ResolvedUtf8 (of_meant change o)
 meant_text change each None = ascii_text no_such_buffer refl
@@ -83,6 +84,7 @@ resolved-utf8 world moment buffer (Sets name value) are utf8 = utf8
 resolved-utf8 world moment buffer (Unsets name) are utf8 = utf8
 resolved-utf8 world moment buffer (Switches name) are utf8 = switched_text (buffer_meant world.groups name)
 resolved-utf8 world moment buffer Saves are utf8 = tt
+resolved-utf8 world moment buffer (UsesHotlist usage) are utf8 = tt
 resolved-utf8 world moment buffer (Evaluates usage value) are utf8 = tt
 
 -- the same of a line that was read

@@ -28,7 +28,7 @@ use Rattle.wc_irc.specs.ServerActs.{acts_of_server, after_server}
 use Rattle.wc_irc.specs.ServerOptions.{settings_of, delete_refusal, connect_refusal}
 use Rattle.wc_irc.specs.Servers.{ServerState}
 use Rattle.wc_irc.specs.Start.{start_of}
-use Rattle.wc_irc_words.specs.Typed.{ServerCommand, AddsServer, DeletesServer, Connects as ConnectsTo, Disconnects, Joins, Parts, Says, Notices, Queries, Does, Renames, SetsTopic, Kicks, SetsModes, AsksNames, Quotes, Talks, Wrong}
+use Rattle.wc_irc_words.specs.Typed.{ServerCommand, AddsServer, DeletesServer, Connects as ConnectsTo, Disconnects, Joins, Parts, Says, Notices, Queries, Does, Renames, SetsTopic, Kicks, SetsModes, AsksNames, Bids, Quotes, Talks, Wrong}
 use Rattle.wc_board.specs.Told.{is_close}
 use Rattle.wc_servers.specs.Outs.{Out, quit_outs}
 use Rattle.wc_servers.specs.Seats.{ServerSeat, server_link}
@@ -183,6 +183,7 @@ serves-closes j state buffer line text (Some (SetsTopic topic)) = here-closes j 
 serves-closes j state buffer line text (Some (Kicks nick reason)) = here-closes j state buffer line
 serves-closes j state buffer line text (Some (SetsModes words)) = here-closes j state buffer line
 serves-closes j state buffer line text (Some AsksNames) = here-closes j state buffer line
+serves-closes j state buffer line text (Some (Bids word said)) = here-closes j state buffer line
 serves-closes j state buffer line text (Some (Quotes said)) = here-closes j state buffer line
 serves-closes j state buffer line text (Some (Talks said)) = here-closes j state buffer line
 serves-closes j state buffer line text (Some (Wrong name)) = here-closes j state buffer line

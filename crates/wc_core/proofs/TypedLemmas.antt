@@ -19,9 +19,10 @@ use Rattle.wc_text.specs.Words.{is_filled}
 use Rattle.wc_model.specs.declared.change.What.TheVariants as what
 use Rattle.wc_core.specs.Texts.{WhatUtf8}
 use Rattle.wc_core.specs.Step.{other_of}
-use Rattle.wc_core.specs.Typed.{TypedCommand, Nothing, Quits, Refused, Others, Prints, Adds, Closes, Merges, Names, Changes, Sets, Unsets, no_text_here, wrong_arguments, unknown_command, print_unless_empty, print_words, tags_of, is_first, second_of, after_second, print_tagged, print_on, print_command, wrong_buffer, one_word, without_words, some_text, moves_to, close_command, starts, set_property, buffer_word, buffer_command, quit_command, set_option, set_command, unset_command, option_command, command, slash_command, typed_line, lines_parted, lines_of_text, Switches, switch_command, input_command, Saves, save_command, Evaluates, eval_text, eval_printed, eval_command, evaluation_of}
+use Rattle.wc_core.specs.Typed.{TypedCommand, Nothing, Quits, Refused, Others, Prints, Adds, Closes, Merges, Names, Changes, Sets, Unsets, no_text_here, wrong_arguments, unknown_command, print_unless_empty, print_words, tags_of, is_first, second_of, after_second, print_tagged, print_on, print_command, wrong_buffer, one_word, without_words, some_text, moves_to, close_command, starts, set_property, buffer_word, buffer_command, quit_command, set_option, set_command, unset_command, option_command, command, slash_command, typed_line, lines_parted, lines_of_text, Switches, switch_command, input_command, hotlist_value, hotlist_command, news_command, UsesHotlist, Saves, save_command, Evaluates, eval_text, eval_printed, eval_command, evaluation_of}
 use Rattle.wc_core.specs.TypedSeen.{lines_left, LeftUtf8}
 use Rattle.wc_core.specs.declared.typed_eval.EvalUse.{EvalUse}
+use Rattle.wc_core.specs.declared.typed_hotlist.HotlistUse.TheVariants as hotlist
 use Rattle.wc_core.specs.declared.typed_eval.EvalUse.TheVariants as eval
 
 -- whether each byte is ASCII
@@ -58,6 +59,7 @@ TypedUtf8 (Sets name value) = IsUtf8 name × IsUtf8 value
 TypedUtf8 (Unsets name) = IsUtf8 name
 TypedUtf8 (Switches name) = Unit {0}
 TypedUtf8 Saves = Unit {0}
+TypedUtf8 (UsesHotlist usage) = Unit {0}
 TypedUtf8 (Evaluates usage text) = IsUtf8 text
 
 typed_if : (b : Bool) (x y : TypedCommand) → TypedUtf8 x → TypedUtf8 y → TypedUtf8 (cond b x y)
@@ -154,12 +156,15 @@ after_front front word begins long utf8 =
     let lines_of_text : word ≡ front ++ 95 ∷ drop 13 word = whole ∙ append_assoc front (95 ∷ []) (drop (length (front ++ 95 ∷ [])) word) ∙ ap (λ n. front ++ 95 ∷ drop n word) long in
     (cut_text front 95 (drop 13 word) (lit< tt) (subst IsUtf8 lines_of_text utf8)).1
 
+hotlist_value_text : (value : List ℕ) → TypedUtf8 (hotlist_value value)
+hotlist_value_text value = typed_if (bytes_eq value (codes "-1")) (UsesHotlist hotlist.Remove) Nothing tt tt
+
 set_text : (word text : List ℕ) → IsUtf8 word → IsUtf8 text → TypedUtf8 (set_property word text)
 set_text word text w t =
     if_typed (bytes_eq word (codes "name")) _ _ (λ e. some_text_text (λ value. Names value) (λ value u. u) text t) (λ e.
     if_typed (bytes_eq word (codes "short_name")) _ _ (λ e. some_text_text (λ value. Changes (what.ShortName value)) (λ value u. u) text t) (λ e.
     if_typed (bytes_eq word (codes "title")) _ _ (λ e. some_text_text (λ value. Changes (what.Title value)) (λ value u. u) text t) (λ e.
-    if_typed (bytes_eq word (codes "hotlist")) _ _ (λ e. some_text_text (λ value. Nothing) (λ value u. tt) text t) (λ e.
+    if_typed (bytes_eq word (codes "hotlist")) _ _ (λ e. some_text_text hotlist_value (λ value u. hotlist_value_text value) text t) (λ e.
     if_typed (starts (codes "localvar_set_") word) _ _
     (λ begins. some_text_text (λ value. Changes (what.SetVar (record { name = drop 13 word; value = value }))) (λ value u. (after_front (codes "localvar_set") word begins refl w, u)) text t) (λ e.
     if_typed (starts (codes "localvar_del_") word) _ _
@@ -223,6 +228,17 @@ input_text text =
     typed_if (bytes_eq text (codes "set_unread_current_buffer")) _ _ tt
     (typed_if (bytes_eq text (codes "hotlist_clear")) _ _ tt (unknown_text (codes "input") (ascii_text (codes "input") refl)))
 
+hotlist_text : (text : List ℕ) → TypedUtf8 (hotlist_command text)
+hotlist_text text =
+    typed_if (bytes_eq text (codes "clear")) _ _ tt
+    (typed_if (bytes_eq text (codes "remove")) _ _ tt (wrong_text (codes "hotlist") (ascii_text (codes "hotlist") refl)))
+
+news_text : (name text : List ℕ) → IsUtf8 name → IsUtf8 text → TypedUtf8 (news_command name text)
+unfolding news_command
+news_text name text n t =
+    typed_if (bytes_eq name (codes "input")) _ _ (input_text text)
+    (typed_if (bytes_eq name (codes "hotlist")) _ _ (hotlist_text text) (options_text name text n t))
+
 eval_use_text : (usage : EvalUse) (text : List ℕ) → IsUtf8 text → TypedUtf8 (eval_text usage text)
 eval_use_text usage [] utf8 = wrong_text (codes "eval") (ascii_text (codes "eval") refl)
 eval_use_text usage (b ∷ text) utf8 = utf8
@@ -240,8 +256,7 @@ command_text name text n t =
     typed_if (bytes_eq name (codes "print")) _ _ (print_text text t)
     (typed_if (bytes_eq name (codes "buffer")) _ _ (buffer_text text t)
     (typed_if (bytes_eq name (codes "quit")) _ _ (quit_text text)
-    (typed_if (bytes_eq name (codes "input")) _ _ (input_text text)
-    (typed_if (bytes_eq name (codes "eval")) _ _ (eval_command_text text t) (options_text name text n t)))))
+    (typed_if (bytes_eq name (codes "eval")) _ _ (eval_command_text text t) (news_text name text n t))))
 
 slashed_text : (text : List ℕ) → IsUtf8 text → TypedUtf8 (slash_command text)
 slashed_text [] utf8 = command_text [] [] IsUtf8-nil IsUtf8-nil
@@ -311,6 +326,7 @@ others_text (Sets name value) text utf8 e = absurd (cc)
 others_text (Unsets name) text utf8 e = absurd (cc)
 others_text (Switches name) text utf8 e = absurd (cc)
 others_text Saves text utf8 e = absurd (cc)
+others_text (UsesHotlist usage) text utf8 e = absurd (cc)
 others_text (Evaluates usage value) text utf8 e = absurd (cc)
 
 -- the text that a line evaluates is text
@@ -332,3 +348,4 @@ evaluated_text (Sets name value) usage text utf8 e = absurd (cc)
 evaluated_text (Unsets name) usage text utf8 e = absurd (cc)
 evaluated_text (Switches name) usage text utf8 e = absurd (cc)
 evaluated_text Saves usage text utf8 e = absurd (cc)
+evaluated_text (UsesHotlist from) usage text utf8 e = absurd (cc)

@@ -15,8 +15,8 @@ use Rattle.wc_irc_texts.specs.Texts.{in_one_line}
 use Rattle.wc_irc_words.specs.declared.command_word.CommandWord.{CommandWord}
 use Rattle.wc_irc_words.specs.declared.command_word.CommandWord.TheVariants as words
 use Rattle.wc_irc_words.specs.TypedSeen.{asked_with, word_named}
-use Rattle.wc_irc_words.specs.Typed.{ServerCommand, AddsServer, DeletesServer, Connects, Disconnects, Joins, Parts, Says, Notices, Queries, Does, Renames, SetsTopic, Kicks, SetsModes, AsksNames, Quotes, Talks, Wrong}
-use Rattle.wc_irc_words.specs.Typed.{without_words, one_word, some_text, is_target, query_with, are_mode_words, tls_words, adds_with, server_add, server_command, disconnect_command, command_of, slash_command, asked_of}
+use Rattle.wc_irc_words.specs.Typed.{ServerCommand, AddsServer, DeletesServer, Connects, Disconnects, Joins, Parts, Says, Notices, Queries, Does, Renames, SetsTopic, Kicks, SetsModes, AsksNames, Bids, Quotes, Talks, Wrong}
+use Rattle.wc_irc_words.specs.Typed.{without_words, one_word, some_text, is_target, are_join_words, query_with, are_mode_words, tls_words, adds_with, server_add, server_command, disconnect_command, command_of, slash_command, asked_of}
 use Rattle.wc_irc_words.proofs.TypedLemmas.{asked_by, command_named}
 use Rattle.wc_core.specs.ServerTyped.{HasTextValue}
 use Rattle.wc_core.proofs.TypedLemmas.{ascii_text}
@@ -39,6 +39,7 @@ AddsText (SetsTopic topic) = Unit {0}
 AddsText (Kicks nick reason) = Unit {0}
 AddsText (SetsModes words) = Unit {0}
 AddsText AsksNames = Unit {0}
+AddsText (Bids word text) = Unit {0}
 AddsText (Quotes line) = Unit {0}
 AddsText (Talks text) = Unit {0}
 AddsText (Wrong name) = Unit {0}
@@ -87,7 +88,7 @@ adds_query nick [] = tt
 adds_query nick (b ∷ said) = tt
 
 adds_word : (word : CommandWord) (text : List ℕ) → IsLine text → AddsText (asked_with word text)
-adds_word words.Join text line = adds_one (codes "join") (λ c. Joins c) text (λ word. tt)
+adds_word words.Join text line = adds_if (are_join_words text) (Joins text) (Wrong (codes "join")) tt tt
 adds_word words.Part text line = tt
 adds_word words.Msg text line = adds_if (is_target (word_of text) && is_filled (rest_of text)) (Says (word_of text) (rest_of text)) (Wrong (codes "msg")) tt tt
 adds_word words.Notice text line = adds_if (is_target (word_of text) && is_filled (rest_of text)) (Notices (word_of text) (rest_of text)) (Wrong (codes "notice")) tt tt
@@ -102,6 +103,7 @@ adds_word words.Quote text line = adds_some (codes "quote") (λ quoted. Quotes q
 adds_word words.Server text line = adds_by text line
 adds_word words.Connect text line = adds_one (codes "connect") (λ n. Connects n) text (λ word. tt)
 adds_word words.Disconnect text line = adds_end text
+adds_word (words.Everyday word) text line = tt
 
 adds_named : (found : Option CommandWord) (text : List ℕ) → IsLine text → AddsTextIn (asked_by found text)
 adds_named None text line = tt

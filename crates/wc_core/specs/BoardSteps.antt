@@ -2,7 +2,7 @@
 use Rattle.std.specs.Prelude.{◌≡◌, ℕ, true, List, [], ◌∷◌, Option, Some}
 use Rattle.wc_text.specs.declared.names.Cause.{Cause}
 use Rattle.wc_outside.specs.Keyed.{at_key}
-use Rattle.wc_options.specs.Options.{OptionsValue}
+use Rattle.wc_session.specs.RequestContext.{Context}
 use Rattle.wc_model.specs.declared.change.Change.{Change}
 use Rattle.wc_model.specs.declared.notice.Notice.{Notice}
 use Rattle.wc_model.specs.Notices.{Accepted}
@@ -37,12 +37,12 @@ pub record TellsChange (old new : BoardView) : Type 0 where
 pub record AnswersClient (old new : BoardView) : Type 0 where
   pub link : ℕ
   pub connection : Connection
-  pub options : OptionsValue
+  pub context : Context
   pub request : Request
   pub result : Outcome
   pub at : at_key connection_link link old.connections ≡ Some connection
   pub sits : is_open connection ≡ true
-  pub answered : IsAnswered link options request result old new connection
+  pub answered : IsAnswered link context request result old new connection
 
 -- the client of a link is leaving, if it was open
 pub record LosesClient (old new : BoardView) : Type 0 where

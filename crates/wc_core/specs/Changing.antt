@@ -2,6 +2,7 @@
 use Rattle.std.specs.Prelude.{ℕ, List, [], ◌∷◌, ◌++◌, map, Option, Some, None}
 use Rattle.std.specs.List.{flat_map}
 use Rattle.wc_text.specs.declared.names.Handle.{Handle}
+use Rattle.wc_hotlist.specs.declared.row.HotRow.{HotRow}
 use Rattle.wc_nickdiff.specs.declared.diff_item.Push.{Push}
 use Rattle.wc_nickdiff.specs.NickPush.{nick_push}
 use Rattle.wc_model.specs.declared.change.Change.{Change}
@@ -22,6 +23,8 @@ use Rattle.wc_session.specs.declared.client.Client.{Client}
 use Rattle.wc_session.specs.Event.{notice_told, push_told}
 use Rattle.wc_session.specs.Sync.{after_event}
 use Rattle.wc_core.specs.Limits.{limit_set, limit_unset}
+use Rattle.wc_core.specs.News.{hotlist_after, rows_used}
+use Rattle.wc_core.specs.declared.typed_hotlist.HotlistUse.{HotlistUse}
 use Rattle.wc_core.specs.Resolved.{refusal_text, option_text, told_refusal}
 use Rattle.wc_servers.specs.Outs.{Out}
 use Rattle.wc_core.specs.State.{State, Act, Sends, outs_of, Stage, Stepped, told_at}
@@ -84,9 +87,14 @@ tell_all_step state told world notice = reach_step (record state {
 })
     (flat_map (told_to world notice) state.clients)
 
+-- the state with another hotlist
+abbrev pub with_hotlist : State → List HotRow → State
+with_hotlist state rows = record state { hotlist = rows }
+
 -- an accepted change
 abbrev pub change_step : State → Change → Stepped
-change_step state change = tell_all_step state
+change_step state change = tell_all_step
+    (with_hotlist state (hotlist_after state.hotlist change.buffer change.what))
     (told_after state.world change.buffer change.what state.told) (after state.world change)
     (notice state.world change)
 
@@ -168,3 +176,10 @@ unset_effect_step state name = then_does (limit_step state (limit_unset name))
 -- the options are saved as the text of their file
 abbrev pub save_step : State → Stepped
 save_step state = put_step (record state { saved = Some (config_text state.options) })
+
+-- ---- the hotlist
+
+-- a command for the hotlist, which is typed into a buffer
+abbrev pub hotlist_step : State → HotlistUse → Handle → Stepped
+hotlist_step state usage buffer =
+    put_step (with_hotlist state (rows_used usage buffer state.hotlist))

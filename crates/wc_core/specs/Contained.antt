@@ -53,6 +53,7 @@ state_with core rest = record {
   moment = core.moment;
   commands = core.commands;
   saved = core.saved;
+  hotlist = core.hotlist;
   servers = open_of core.servers.seats;
   used = core.servers.used;
   connects = core.connects;

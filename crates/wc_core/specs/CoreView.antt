@@ -1,5 +1,6 @@
 -- What contracts see of the core.
 use Rattle.std.specs.Prelude.{ℕ, Bool, List, Option}
+use Rattle.wc_hotlist.specs.declared.row.HotRow.{HotRow}
 use Rattle.wc_nickdiff.specs.Held.{OfBuffer}
 use Rattle.wc_options.specs.Options.{OptionsValue}
 use Rattle.wc_model.specs.World.{World}
@@ -21,6 +22,8 @@ pub record CoreView : Type 0 where
   -- the text of the options that was saved last, and whether it is still to be written
   pub saved : Option (List ℕ)
   pub unwritten : Bool
+  -- which buffers had lines that were displayed
+  pub hotlist : List HotRow
   -- the servers that have a link, or are to have one
   pub servers : ServersView
   -- the texts that were judged as patterns

@@ -7,6 +7,7 @@ use Rattle.wc_model.specs.declared.change.Change.{Change}
 use Rattle.wc_model.specs.declared.refused.ChangeRefused.{ChangeRefused}
 use Rattle.wc_model.specs.Apply.{refusal}
 use Rattle.wc_core.specs.CoreView.{CoreView}
+use Rattle.wc_core.specs.Contexts.{context_in}
 use Rattle.wc_core.specs.Step.{no_step, push_step, change_step, input_step, lines_step}
 use Rattle.wc_core.specs.ServerSteps.{taken_step}
 use Rattle.wc_ircmsg.specs.declared.message.Message.{Message}
@@ -59,9 +60,9 @@ pub record AnswersRequestOf (link : ℕ) (request : Request) (result : Outcome)
       at_key connection_link link between.connections ≡ Some now → is_open now ≡ true →
       now.session.client ≡ before.session.client
   pub world : between.world ≡ old.world
-  pub options : between.options ≡ old.options
+  pub context : context_in between ≡ context_in old
   pub answered : new ≡ record between { connections = new.connections }
-  pub board : AnsweredAt link old.options request result
+  pub board : AnsweredAt link (context_in old) request result
       (record { world = between.world; pending = between.pending; connections = between.connections })
       (record { world = new.world; pending = new.pending; connections = new.connections })
       (at_key connection_link link between.connections)

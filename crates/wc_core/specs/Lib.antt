@@ -1,12 +1,15 @@
 pub mod BoardSteps
 pub mod Changing
+pub mod CommandNames
 pub mod Contained
+pub mod Contexts
 pub mod Evaluated
 pub mod EvaluatedSeen
 pub mod Events
 pub mod Inputs
 pub mod Limits
 pub mod LinksSeen
+pub mod News
 pub mod Resolved
 pub mod ResolvedSeen
 pub mod Served

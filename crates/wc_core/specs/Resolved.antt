@@ -24,6 +24,8 @@ use Rattle.wc_options.specs.declared.refusal.SetRefused.TheVariants as option
 use Rattle.wc_session.specs.Names.{buffer_named}
 use Rattle.wc_core.specs.Typed.{TypedCommand, Nothing, Quits, Refused, Others, Prints, Adds, Closes}
 use Rattle.wc_core.specs.Typed.{Merges, Names, Changes, Sets, Unsets, Switches, Saves, Evaluates}
+use Rattle.wc_core.specs.Typed.{UsesHotlist}
+use Rattle.wc_core.specs.declared.typed_hotlist.HotlistUse.{HotlistUse}
 
 pub data Effect : Type 0 where
   Stays : Effect
@@ -37,6 +39,8 @@ pub data Effect : Type 0 where
   UnsetsOption : List ℕ → Effect
   -- the options are to be saved
   SavesOptions : Effect
+  -- rows of the hotlist are to be taken out by a command that is typed into a buffer
+  ChangesHotlist : HotlistUse → Handle → Effect
 
 -- ---- buffers that a command names
 
@@ -140,6 +144,7 @@ effect_of world moment buffer (Sets name value) = SetsOption name value
 effect_of world moment buffer (Unsets name) = UnsetsOption name
 effect_of world moment buffer (Switches name) = switched (buffer_meant world.groups name)
 effect_of world moment buffer Saves = SavesOptions
+effect_of world moment buffer (UsesHotlist usage) = ChangesHotlist usage buffer
 effect_of world moment buffer (Evaluates usage text) = Stays
 
 -- ---- the texts of refusals

@@ -44,6 +44,7 @@ state_of core told = record {
   moment = core.moment;
   commands = core.commands;
   saved = core.saved;
+  hotlist = core.hotlist;
   servers = open_of core.servers.seats;
   used = core.servers.used;
   connects = core.connects;
@@ -154,13 +155,14 @@ pub record KeepsClients (old new : CoreView) : Type 0 where
   pub servers : ServersKeep old.servers new.servers
   pub verdicts : Stay old.verdicts new.verdicts
 
--- nothing but the buffers, the touches of their nicklists, clients, and the counts of want of memory
--- becomes another one
+-- nothing but the buffers, the touches of their nicklists, clients, the hotlist, and the counts of want
+-- of memory becomes another one
 abbrev pub ChangesBuffers : CoreView → CoreView → Type 0
 ChangesBuffers old new = new ≡ record old {
   world = new.world;
   pending = new.pending;
   connections = new.connections;
+  hotlist = new.hotlist;
   starved = new.starved;
   cuts = new.cuts;
 }
@@ -171,6 +173,7 @@ ChangesServers old new = new ≡ record old {
   world = new.world;
   pending = new.pending;
   connections = new.connections;
+  hotlist = new.hotlist;
   servers = new.servers;
   starved = new.starved;
   cuts = new.cuts;

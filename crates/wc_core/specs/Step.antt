@@ -18,8 +18,9 @@ use Rattle.wc_servers.specs.Seats.{server_link}
 use Rattle.wc_core.specs.Events.{Event, Start, Tick, Arrives, Line as LineCame, Stands, Ends, Fails}
 use Rattle.wc_core.specs.Events.{Breaks, ListenFails}
 use Rattle.wc_core.specs.Limits.{client_limit}
+use Rattle.wc_core.specs.Contexts.{context_of}
 use Rattle.wc_core.specs.Resolved.{Effect, Stays, Ends as ResolvedEnds, Tells, Asks, SetsOption}
-use Rattle.wc_core.specs.Resolved.{UnsetsOption, SavesOptions, effect_of}
+use Rattle.wc_core.specs.Resolved.{UnsetsOption, SavesOptions, ChangesHotlist, effect_of}
 use Rattle.wc_core.specs.State.{State, Closes, Stepped, has_end}
 use Rattle.wc_board.specs.Answered.{is_nicklist}
 use Rattle.wc_core.specs.Evaluated.{value_at, holds_at, answer_text, printed_value}
@@ -32,7 +33,7 @@ pub use Rattle.wc_core.specs.Changing.{tell_all_step, change_step, change_step_i
 pub use Rattle.wc_core.specs.Changing.{ask_step_if, ask_step, pushed_to, push_at, pushes_of}
 pub use Rattle.wc_core.specs.Changing.{push_step, set_step_if, set_step, unset_step_if, unset_step}
 pub use Rattle.wc_core.specs.Changing.{limit_change, limit_step, set_effect_step, unset_effect_step}
-pub use Rattle.wc_core.specs.Changing.{save_step}
+pub use Rattle.wc_core.specs.Changing.{save_step, hotlist_step, with_hotlist}
 use Rattle.wc_core.specs.ServerSteps.{before_step, quit_step, server_line_step, server_loss_step}
 use Rattle.wc_core.specs.ServerSteps.{stands_step}
 use Rattle.wc_core.specs.ServerTyped.{served_line_step, connect_all_step}
@@ -48,6 +49,7 @@ effect_step state (Asks change) = then_does (before_step state change)
 effect_step state (SetsOption name value) = set_effect_step state name value
 effect_step state (UnsetsOption name) = unset_effect_step state name
 effect_step state SavesOptions = save_step state
+effect_step state (ChangesHotlist usage buffer) = hotlist_step state usage buffer
 
 -- what one line comes to that is typed into a buffer and that the core knows by itself
 abbrev pub typed_step : State → Handle → TypedCommand → Stepped
@@ -153,7 +155,7 @@ answer_step state link answer =
 
 abbrev pub reply_step : State → Client → Request → Stepped
 reply_step state client request = answer_step state (client_link client)
-    (reply_of state.world state.options client request)
+    (reply_of state.world (context_of state) client request)
 
 -- a line of a client, where it is open and its line is a request; what is to be pushed comes before
 -- a nicklist

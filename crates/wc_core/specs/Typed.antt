@@ -11,6 +11,8 @@ use Rattle.wc_model.specs.declared.change.What.{What}
 use Rattle.wc_model.specs.declared.change.What.TheVariants as what
 use Rattle.wc_core.specs.declared.typed_eval.EvalUse.{EvalUse}
 use Rattle.wc_core.specs.declared.typed_eval.EvalUse.TheVariants as eval
+use Rattle.wc_core.specs.declared.typed_hotlist.HotlistUse.{HotlistUse}
+use Rattle.wc_core.specs.declared.typed_hotlist.HotlistUse.TheVariants as hotlist
 
 pub data TypedCommand : Type 0 where
   Nothing : TypedCommand
@@ -39,6 +41,8 @@ pub data TypedCommand : Type 0 where
   Switches : List ℕ → TypedCommand
   -- the options are to be saved
   Saves : TypedCommand
+  -- rows of the hotlist are to be taken out
+  UsesHotlist : HotlistUse → TypedCommand
   -- a text that is evaluated, and what becomes of it
   Evaluates : EvalUse → List ℕ → TypedCommand
 
@@ -140,8 +144,12 @@ close_command (b ∷ text) = one_word (λ name. Closes (Some name)) (b ∷ text)
 abbrev pub starts : List ℕ → List ℕ → Bool
 starts front word = starts_with nat_eq word front
 
+-- the value that takes the buffer out of the hotlist; other values mean nothing here
+abbrev pub hotlist_value : List ℕ → TypedCommand
+hotlist_value value = if bytes_eq value (codes "-1") then UsesHotlist hotlist.Remove else Nothing
+
 -- a property of the buffer: `localvar_set_X` and `localvar_del_X` name a variable by what comes
--- after; `hotlist`, which clients set as they show another buffer, is taken and means nothing here
+-- after; `hotlist` is that which clients set as they show another buffer
 abbrev pub set_property : List ℕ → List ℕ → TypedCommand
 set_property word text =
     if bytes_eq word (codes "name") then some_text (λ value. Names value) text else (
@@ -149,7 +157,7 @@ set_property word text =
     text else (
     if bytes_eq word (codes "title") then some_text (λ value. Changes (what.Title value))
     text else (
-    if bytes_eq word (codes "hotlist") then some_text (λ value. Nothing) text else (
+    if bytes_eq word (codes "hotlist") then some_text hotlist_value text else (
     if starts (codes "localvar_set_") word
     then some_text (λ value. Changes
     (what.SetVar (record { name = drop 13 word; value = value }))) text else (
@@ -227,19 +235,31 @@ abbrev pub quit_command : List ℕ → TypedCommand
 quit_command [] = Quits
 quit_command (b ∷ text) = wrong_arguments (codes "quit")
 
--- what clients type as they show another buffer; it is taken and means nothing here
+-- what clients type as they show another buffer; that all of it was read means nothing here
 abbrev pub input_command : List ℕ → TypedCommand
 input_command text =
     if bytes_eq text (codes "set_unread_current_buffer") then Nothing else (
-    if bytes_eq text (codes "hotlist_clear") then Nothing else unknown_command (codes "input"))
+    if bytes_eq text (codes "hotlist_clear") then UsesHotlist hotlist.Clear
+    else unknown_command (codes "input"))
+
+-- one of two words
+abbrev pub hotlist_command : List ℕ → TypedCommand
+hotlist_command text =
+    if bytes_eq text (codes "clear") then UsesHotlist hotlist.Clear else (
+    if bytes_eq text (codes "remove") then UsesHotlist hotlist.Remove
+    else wrong_arguments (codes "hotlist"))
+
+unfoldable pub news_command : List ℕ → List ℕ → TypedCommand
+news_command name rest =
+    if bytes_eq name (codes "input") then input_command rest else (
+    if bytes_eq name (codes "hotlist") then hotlist_command rest else option_command name rest)
 
 abbrev pub command : List ℕ → List ℕ → TypedCommand
 command name rest =
     if bytes_eq name (codes "print") then print_command rest else (
     if bytes_eq name (codes "buffer") then buffer_command rest else (
     if bytes_eq name (codes "quit") then quit_command rest else (
-    if bytes_eq name (codes "input") then input_command rest else (
-    if bytes_eq name (codes "eval") then eval_command rest else option_command name rest))))
+    if bytes_eq name (codes "eval") then eval_command rest else news_command name rest)))
 
 -- what one line asks for after a `/`
 abbrev pub slash_command : List ℕ → TypedCommand

@@ -16,7 +16,7 @@ use Rattle.wc_core.specs.declared.typed.CommandText.TheVariants as asked
 use Rattle.wc_core.specs.Typed.{TypedCommand, Nothing, Quits, Refused, Others, Prints, Adds, Closes}
 use Rattle.wc_core.specs.declared.typed_eval.EvalUse.{EvalUse}
 use Rattle.wc_core.specs.Typed.{Merges, Names, Changes, Sets, Unsets, Switches, Saves, Evaluates}
-use Rattle.wc_core.specs.Typed.{lines_of_text, tags_of}
+use Rattle.wc_core.specs.Typed.{UsesHotlist, hotlist_value, lines_of_text, tags_of}
 use Rattle.wc_core.specs.Typed.{wrong_buffer, some_text, without_words, starts}
 
 -- a word that was found
@@ -49,6 +49,7 @@ meaning (asked.SetOption name value) = Sets name.now value.now
 meaning (asked.UnsetOption name) = Unsets name.now
 meaning (asked.Switch name) = Switches name.now
 meaning asked.Save = Saves
+meaning (asked.UseHotlist usage) = UsesHotlist usage
 meaning (asked.Eval usage text) = Evaluates usage text.now
 
 -- two texts that were found, as one
@@ -92,7 +93,7 @@ abbrev pub property_set : Property → List ℕ → TypedCommand
 property_set properties.Name text = some_text (λ value. Names value) text
 property_set properties.ShortName text = some_text (λ value. Changes (what.ShortName value)) text
 property_set properties.Title text = some_text (λ value. Changes (what.Title value)) text
-property_set properties.Hotlist text = some_text (λ value. Nothing) text
+property_set properties.Hotlist text = some_text hotlist_value text
 property_set (properties.SetVar name) text =
     some_text (λ value. Changes (what.SetVar (record { name = name.now; value = value }))) text
 property_set (properties.RemoveVar name) text =

@@ -11,6 +11,7 @@ ghost use Rattle.wc_core.specs.Contained.{Runs};
 ghost use Rattle.wc_core.specs.Served.{ChangesBuffers};
 ghost use Rattle.wc_core.specs.Inputs.{MakesChange, RefusesChange, GoesOn, Stops};
 
+use crate::core_hotlist::News;
 use crate::core_state::Core;
 use crate::lines::cut_line;
 use crate::refusals::refusal_text;
@@ -106,6 +107,7 @@ impl Core {
             Ok(Resolution::SetsOption(pair)) => self.set_option(&pair),
             Ok(Resolution::UnsetsOption(name)) => self.unset_option(&name),
             Ok(Resolution::SavesOptions) => self.save(),
+            Ok(Resolution::ChangesHotlist(usage, own)) => self.use_hotlist(usage, own),
             Err(NoMemory) => self.starve(),
         }
     }
@@ -149,10 +151,12 @@ impl Core {
     {
         let _before = self.board.world();
         let before = self.board.open_count();
+        let news = News::of(&change);
         match self.board.tell(change) {
             Ok(_told) => {
                 let _after = self.board.world().buffers().groups();
                 self.count_dropped(before);
+                self.heed(news);
                 None
             }
             Err(ChangeRefused::NoMemory) => {

@@ -28,16 +28,19 @@ ghost use Rattle.wc_core.specs.Served.{OutcomeUtf8};
 ghost use Rattle.wc_core.specs.BoardSteps.{board_of, StepsBy};
 ghost use Rattle.wc_core.specs.Inputs.{AnswersRequestOf};
 
+use crate::beginning::Beginning;
+use crate::command_names::CommandNames;
 use crate::limits::most_lines;
 use std::alloc::Global;
 use std::marker::Model;
 use std::mem;
 use wc_board::Board;
 use wc_eval::Verdicts;
+use wc_hotlist::Hotlist;
 use wc_options::Options;
 use wc_relaycmd::{Request, read_request};
 use wc_servers::Servers;
-use wc_session::Outcome;
+use wc_session::{Outcome, RequestContext};
 use wc_text::{Arrival, Cause, Handle, LinkId, NoMemory, Text};
 
 /// The core buffer.
@@ -57,12 +60,16 @@ pub struct Core {
     /// The text of the options that was saved last, and whether the loop is still to write it.
     pub(crate) saved: Option<Text>,
     pub(crate) unwritten: bool,
+    /// Which buffers had lines that were displayed.
+    pub(crate) hotlist: Hotlist,
     /// Whether servers are connected by themselves at the start.
     pub(crate) connects: bool,
     pub(crate) starved: u64,
     /// How many inputs were cut short for want of memory.
     pub(crate) cuts: u64,
     pub(crate) quits: bool,
+    /// What clients complete names of commands by.
+    pub(crate) command_names: CommandNames,
 }
 
 impl Model for Core {
@@ -84,6 +91,7 @@ impl Model for Core {
       commands = mapped string_bytes core.commands.items;
       saved = core.saved;
       unwritten = core.unwritten;
+      hotlist = core.hotlist;
       servers = core.servers;
       verdicts = core.verdicts;
       connects = core.connects;
@@ -106,8 +114,13 @@ impl Core {
         ensures unjudged { IfOk result (λ core. core.verdicts.rows ≡ []) }
         ensures uncut { IfOk result (λ core. core.cuts ≡ 0) }
     {
-        let board = Board::new(alloc, most_lines(&options))?;
-        let verdicts = Verdicts::new(alloc)?;
+        let made = Beginning::new(alloc, most_lines(&options))?;
+        let Beginning {
+            board,
+            verdicts,
+            hotlist,
+            command_names,
+        } = made;
         Ok(Core {
             alloc,
             options,
@@ -118,6 +131,8 @@ impl Core {
             commands,
             saved: None,
             unwritten: false,
+            hotlist,
+            command_names,
             connects: true,
             starved: 0,
             cuts: 0,
@@ -360,7 +375,12 @@ impl Core {
         ensures { AnswersRequestOf link.0 request result self.old self.new }
     {
         let before = self.board.open_count();
-        let outcome = self.board.request(&self.options, link, request);
+        let context = RequestContext {
+            options: &self.options,
+            hotlist: &self.hotlist,
+            commands: self.command_names.as_slice(),
+        };
+        let outcome = self.board.request(context, link, request);
         self.count_dropped(before);
         outcome
     }

@@ -112,6 +112,7 @@ impl Core {
             | ServerCommand::Kick { nick: _, reason: _ }
             | ServerCommand::Mode(_)
             | ServerCommand::Names
+            | ServerCommand::Bid(_, _)
             | ServerCommand::Quote(_)
             | ServerCommand::Talk(_)
             | ServerCommand::Wrong(_) => self.serve_buffer(buffer, line),

@@ -1,9 +1,12 @@
 //! The core: the clients, the buffers with their lines, and what is typed into them.
 #![tactic(auto)]
 
+mod beginning;
+mod command_names;
 mod core_acts;
 mod core_connect;
 mod core_eval;
+mod core_hotlist;
 mod core_input;
 mod core_links;
 mod core_options;
@@ -11,6 +14,7 @@ mod core_servers;
 mod core_state;
 mod core_typed;
 mod evaluated;
+mod laws;
 mod limits;
 mod lines;
 mod refusals;
@@ -18,8 +22,11 @@ mod resolve;
 mod typed;
 mod typed_buffer;
 mod typed_eval;
+mod typed_hotlist;
 
+pub use command_names::CommandNames;
 pub use core_state::Core;
+pub use laws::known_commands_are_named;
 pub use limits::port_of;
 pub use wc_board::{Connection, Departure};
 pub use wc_servers::Wanted;

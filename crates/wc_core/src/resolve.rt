@@ -15,6 +15,7 @@ ghost use Rattle.wc_text.specs.declared.names.Handle.{Handle};
 
 use crate::refusals::joined_texts;
 use crate::typed::{CommandText, read_number, read_tags};
+use crate::typed_hotlist::HotlistUse;
 use std::alloc::Global;
 use wc_buffers::{BufferRow, BufferSpec, Buffers};
 use wc_model::{Change, LineSpec, What, levels_of};
@@ -39,6 +40,8 @@ pub(crate) enum Resolution {
     UnsetsOption(Text),
     /// The options are to be saved.
     SavesOptions,
+    /// Rows of the hotlist are to be taken out.
+    ChangesHotlist(HotlistUse, Handle),
 }
 
 fn asks(buffer: Handle, what: What) -> Resolution
@@ -207,6 +210,7 @@ pub(crate) fn resolve(
         CommandText::UnsetOption(name) => unset_option(alloc, name),
         CommandText::Switch(name) => switch(alloc, buffer_meant(buffers, name)),
         CommandText::Save => Ok(Resolution::SavesOptions),
+        CommandText::UseHotlist(usage) => Ok(Resolution::ChangesHotlist(usage, buffer)),
         CommandText::Eval { usage: _, text: _ } => Ok(Resolution::Stays),
     }
 }

@@ -2,7 +2,7 @@ ghost use Rattle.std.specs.Prelude.{◌≡◌, Some, ◌++◌, ◌∷◌, [], If
 ghost use Rattle.wc_core.specs.Typed.{no_text_here, unknown_command, wrong_arguments, quit_command};
 ghost use Rattle.wc_core.specs.Typed.{command, slash_command, typed_line, print_words};
 ghost use Rattle.wc_core.specs.Typed.{set_option, set_command, unset_command, option_command};
-ghost use Rattle.wc_core.specs.Typed.{input_command, save_command};
+ghost use Rattle.wc_core.specs.Typed.{save_command};
 ghost use Rattle.wc_core.specs.Typed.{print_tagged, print_on, print_command, tags_of};
 ghost use Rattle.wc_core.specs.Step.{other_of};
 ghost use Rattle.wc_core.specs.TypedSeen.{meaning, word_in, number_of, texts_in};
@@ -10,6 +10,7 @@ ghost use Rattle.wc_text.specs.Words.{is_filled};
 
 use crate::typed_buffer::{buffer_command, only_word};
 use crate::typed_eval::{EvalUse, eval_command};
+use crate::typed_hotlist::{HotlistUse, news_command};
 use std::alloc::Global;
 use wc_text::{Items, NoMemory, Text, cut_word, split_once};
 
@@ -73,6 +74,8 @@ pub enum CommandText<'a> {
     Switch(&'a [u8]),
     /// The options are to be saved.
     Save,
+    /// Rows of the hotlist are to be taken out.
+    UseHotlist(HotlistUse),
     /// A text that is evaluated.
     Eval {
         usage: EvalUse,
@@ -89,7 +92,7 @@ fn no_text_here<'a>() -> CommandText<'a>
     }
 }
 
-fn unknown_command(name: &[u8]) -> CommandText<'_>
+pub(crate) fn unknown_command(name: &[u8]) -> CommandText<'_>
     ensures { meaning result ≡ unknown_command name.now }
 {
     CommandText::Other {
@@ -154,7 +157,7 @@ fn save_command(text: &[u8]) -> CommandText<'_>
 
 /// The commands for options.
 #[tactic(auto, unfolding(crate::specs::Typed::option_command))]
-fn option_command<'a>(name: &'a [u8], text: &'a [u8]) -> CommandText<'a>
+pub(crate) fn option_command<'a>(name: &'a [u8], text: &'a [u8]) -> CommandText<'a>
     ensures { meaning result ≡ option_command name.now text.now }
 {
     if name == b"set".as_slice() {
@@ -168,16 +171,6 @@ fn option_command<'a>(name: &'a [u8], text: &'a [u8]) -> CommandText<'a>
     }
 }
 
-/// What clients type as they show another buffer, which means nothing here.
-fn input_command(text: &[u8]) -> CommandText<'_>
-    ensures { meaning result ≡ input_command text.now }
-{
-    if text == b"set_unread_current_buffer".as_slice() || text == b"hotlist_clear".as_slice() {
-        return CommandText::Nothing;
-    }
-    unknown_command(b"input")
-}
-
 fn command<'a>(name: &'a [u8], text: &'a [u8]) -> CommandText<'a>
     ensures { meaning result ≡ command name.now text.now }
 {
@@ -187,12 +180,10 @@ fn command<'a>(name: &'a [u8], text: &'a [u8]) -> CommandText<'a>
         buffer_command(text)
     } else if name == b"quit".as_slice() {
         quit_command(text)
-    } else if name == b"input".as_slice() {
-        input_command(text)
     } else if name == b"eval".as_slice() {
         eval_command(text)
     } else {
-        option_command(name, text)
+        news_command(name, text)
     }
 }
 

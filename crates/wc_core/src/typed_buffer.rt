@@ -8,6 +8,7 @@ ghost use Rattle.wc_core.specs.TypedSeen.{only_word, property_set};
 ghost use Rattle.wc_text.specs.Splits.{word_of, rest_of};
 
 use crate::typed::{CommandText, read_number, wrong_arguments};
+use crate::typed_hotlist::hotlist_property;
 use wc_text::cut_word;
 
 /// The word after `/buffer`.
@@ -69,7 +70,7 @@ pub(crate) enum Property<'a> {
     Name,
     ShortName,
     Title,
-    /// How much news a client has not seen, which is not kept here.
+    /// Which news a client has not seen.
     Hotlist,
     /// The variable that is named after `localvar_set_`.
     SetVar(&'a [u8]),
@@ -198,7 +199,7 @@ fn set_to<'a>(property: Property<'a>, text: &'a [u8]) -> CommandText<'a>
         Property::Name => with_value(CommandText::Name(text), text),
         Property::ShortName => with_value(CommandText::ShortName(text), text),
         Property::Title => with_value(CommandText::Title(text), text),
-        Property::Hotlist => with_value(CommandText::Nothing, text),
+        Property::Hotlist => hotlist_property(text),
         Property::SetVar(name) => with_value(CommandText::SetVar { name, value: text }, text),
         Property::RemoveVar(name) => without_words(CommandText::RemoveVar(name), text),
     }

@@ -10,20 +10,22 @@ use Rattle.wc_outside.specs.Keyed.{at_key, put_at}
 use Rattle.wc_outside.proofs.KeyedLemmas.{put_at-same}
 use Rattle.wc_model.specs.World.{World}
 use Rattle.wc_objects.specs.declared.object.WireMessage.{WireMessage}
-use Rattle.wc_options.specs.Options.{OptionsValue}
+use Rattle.wc_session.specs.RequestContext.{Context}
 use Rattle.wc_relaycmd.specs.declared.request.Command.{Command}
 use Rattle.wc_relaycmd.specs.declared.request.Command.TheVariants as ask
 use Rattle.wc_relaycmd.specs.declared.request.Request.{Request}
 use Rattle.wc_session.specs.declared.client.Client.{Client}
 use Rattle.wc_session.specs.declared.outcome.Outcome.{Outcome}
 use Rattle.wc_session.specs.declared.outcome.Outcome.TheVariants as outcome
+use Rattle.wc_session.specs.Completions.{completion_objects}
 use Rattle.wc_session.specs.Handshakes.{choice_in, algorithm_for}
 use Rattle.wc_session.specs.Heeded.{password_of, masks_of}
 use Rattle.wc_session.specs.Logins.{pairs_let_in}
 use Rattle.wc_session.specs.Names.{buffer_named}
-use Rattle.wc_session.specs.Reply.{Answer, silent, leaves, replies, shaken, handshake_reply, handshake_answer, init_answer, typed_into, is_open, test_objects, hdata_objects, info_objects, infolist_objects, nicklist_objects, pong_objects, served, reply_of}
-use Rattle.wc_session.specs.Sending.{reply, null_hdata}
+use Rattle.wc_session.specs.Reply.{Answer, silent, leaves, replies, shaken, handshake_reply, handshake_answer, init_answer, typed_into, is_open, test_objects, hdata_answered, info_objects, infolist_objects, nicklist_objects, pong_objects, served, reply_of}
+use Rattle.wc_session.specs.Sending.{reply}
 use Rattle.wc_board.specs.Answered.{is_nicklist}
+use Rattle.wc_core.specs.Contexts.{context_of}
 use Rattle.wc_core.specs.State.{State, Stepped}
 use Rattle.wc_core.specs.Step.{client_link, no_step, then_does, push_step, answer_step, reply_step, request_step}
 use Rattle.wc_mirror_laws.specs.Held.{HeldPart, Lines, Buffers, Nicks, HeldOf, Has, asks_dump}
@@ -90,16 +92,16 @@ all_told Nicks state client request logged e =
 abbrev IsReply : Client → Answer → Type 0
 IsReply client answer = (messages : List WireMessage) × (answer ≡ replies client messages)
 
-nick_served : (world : World) (options : OptionsValue) (client : Client) (id : List ℕ) (command : Command) → is_nicklist command ≡ true → IsReply client (served world options client id command)
+nick_served : (world : World) (context : Context) (client : Client) (id : List ℕ) (command : Command) → is_nicklist command ≡ true → IsReply client (served world context client id command)
 unfolding served
-nick_served world options client id (ask.Nicklist buffer) e = (reply id (nicklist_objects world buffer), refl)
-nick_served world options client id _ e = absurd (false≢true e)
+nick_served world context client id (ask.Nicklist buffer) e = (reply id (nicklist_objects world buffer), refl)
+nick_served world context client id _ e = absurd (false≢true e)
 
-nick_answer : (world : World) (options : OptionsValue) (client : Client) (request : Request) → client.logged_in ≡ true → is_nicklist request.command ≡ true → IsReply client (reply_of world options client request)
+nick_answer : (world : World) (context : Context) (client : Client) (request : Request) → client.logged_in ≡ true → is_nicklist request.command ≡ true → IsReply client (reply_of world context client request)
 unfolding reply_of
-nick_answer world options client request logged e =
-    let is = nick_served world options client request.id request.command e in
-    (is.0, ap (λ b. cond (b || is_open request.command) (served world options client request.id request.command) (leaves client cause.LoginFailed)) logged ∙ is.1)
+nick_answer world context client request logged e =
+    let is = nick_served world context client request.id request.command e in
+    (is.0, ap (λ b. cond (b || is_open request.command) (served world context client request.id request.command) (leaves client cause.LoginFailed)) logged ∙ is.1)
 
 replied_clients : (state : State) (k : ℕ) (client : Client) (messages : List WireMessage) → (answer_step state k (replies client messages)).state.clients ≡ put_at client_link k client state.clients
 replied_clients state k client [] = refl
@@ -108,7 +110,7 @@ replied_clients state k client (m ∷ messages) = refl
 nick_clients : (state : State) (client : Client) (request : Request) → lists_nicks client request ≡ true → at_key client_link (client_link client) state.clients ≡ Some client → (reply_step state client request).state.clients ≡ state.clients
 nick_clients state client request e at =
     let both = parts client.logged_in (is_nicklist request.command) e in
-    let is = nick_answer state.world state.options client request both.0 both.1 in
+    let is = nick_answer state.world (context_of state) client request both.0 both.1 in
     ap (λ a. (answer_step state (client_link client) a).state.clients) is.1
     ∙ replied_clients state (client_link client) client is.0 ∙ put_at-same client_link (client_link client) state.clients client at
   where
@@ -151,26 +153,26 @@ typed_stays : (client : Client) (text : List ℕ) (buffer : Option Handle) → S
 typed_stays client text None = tt
 typed_stays client text (Some buffer) = refl
 
-served_stays : (world : World) (options : OptionsValue) (client : Client) (id : List ℕ) (command : Command) → StaysAtInput client (served world options client id command)
+served_stays : (world : World) (context : Context) (client : Client) (id : List ℕ) (command : Command) → StaysAtInput client (served world context client id command)
 unfolding served
-served_stays world options client id (ask.Handshake pairs) = shaken_stays (masks_of options) client id pairs
-served_stays world options client id (ask.Init pairs) = init_stays (masks_of options) (password_of options) client pairs
-served_stays world options client id (ask.Hdata path keys) = replies_stay client client (reply id (hdata_objects world path keys))
-served_stays world options client id (ask.Info name) = replies_stay client client (reply id (info_objects name))
-served_stays world options client id (ask.Infolist name argument) = replies_stay client client (reply id (infolist_objects world name argument))
-served_stays world options client id (ask.Nicklist buffer) = replies_stay client client (reply id (nicklist_objects world buffer))
-served_stays world options client id (ask.Input buffer text) = typed_stays client text (buffer_named world.groups buffer)
-served_stays world options client id (ask.Completion buffer position text) = replies_stay client client (reply id null_hdata)
-served_stays world options client id (ask.Sync buffers asked) = tt
-served_stays world options client id (ask.Desync buffers asked) = tt
-served_stays world options client id ask.Test = replies_stay client client (reply id test_objects)
-served_stays world options client id (ask.Ping text) = replies_stay client client (reply (codes "_pong") (pong_objects text))
-served_stays world options client id ask.Quit = tt
+served_stays world context client id (ask.Handshake pairs) = shaken_stays (masks_of context.options) client id pairs
+served_stays world context client id (ask.Init pairs) = init_stays (masks_of context.options) (password_of context.options) client pairs
+served_stays world context client id (ask.Hdata path keys) = replies_stay client client (reply id (hdata_answered world context.hotlist path keys))
+served_stays world context client id (ask.Info name) = replies_stay client client (reply id (info_objects name))
+served_stays world context client id (ask.Infolist name argument) = replies_stay client client (reply id (infolist_objects world name argument))
+served_stays world context client id (ask.Nicklist buffer) = replies_stay client client (reply id (nicklist_objects world buffer))
+served_stays world context client id (ask.Input buffer text) = typed_stays client text (buffer_named world.groups buffer)
+served_stays world context client id (ask.Completion buffer position text) = replies_stay client client (reply id (completion_objects world context.commands buffer position text))
+served_stays world context client id (ask.Sync buffers asked) = tt
+served_stays world context client id (ask.Desync buffers asked) = tt
+served_stays world context client id ask.Test = replies_stay client client (reply id test_objects)
+served_stays world context client id (ask.Ping text) = replies_stay client client (reply (codes "_pong") (pong_objects text))
+served_stays world context client id ask.Quit = tt
 
-pub input_stays : (world : World) (options : OptionsValue) (client : Client) (request : Request) → StaysAtInput client (reply_of world options client request)
+pub input_stays : (world : World) (context : Context) (client : Client) (request : Request) → StaysAtInput client (reply_of world context client request)
 unfolding reply_of
-input_stays world options client request =
-    if_stays client (client.logged_in || is_open request.command) (served world options client request.id request.command) (leaves client cause.LoginFailed) (served_stays world options client request.id request.command) tt
+input_stays world context client request =
+    if_stays client (client.logged_in || is_open request.command) (served world context client request.id request.command) (leaves client cause.LoginFailed) (served_stays world context client request.id request.command) tt
 
 -- ---- what was followed before a reply
 

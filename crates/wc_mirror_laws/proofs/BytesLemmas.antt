@@ -20,6 +20,7 @@ use Rattle.wc_session.specs.declared.outcome.Outcome.{Outcome}
 use Rattle.wc_session.specs.declared.outcome.Outcome.TheVariants as outcome
 use Rattle.wc_session.specs.Reply.{reply_of}
 use Rattle.wc_session.specs.Sending.{spelling}
+use Rattle.wc_core.specs.Contexts.{context_of}
 use Rattle.wc_core.specs.Events.{Event, Start, Tick, Arrives, Line as LineCame, Stands, Ends, Fails, Breaks, ListenFails}
 use Rattle.wc_core.specs.State.{State, Stepped}
 use Rattle.wc_servers.specs.Seats.{server_link}
@@ -60,13 +61,13 @@ line_spelt link state k line kept = came (at_key client_link k state.clients) wh
       let first = before_reply state client request in
       let now = first.state in
       let tells = Tells-before Lines None link [] state client request tt kept in
-      let answer = reply_of now.world now.options client request in
+      let answer = reply_of now.world (context_of now) client request in
       let next : State = record now { clients = put_at client_link (client_link client) answer.client now.clients } in
       let utf8 = RequestIsUtf8-reads line client.escaped request (reads-request_of line client.escaped request e) in
       subst (λ (s : Stepped). AllSpelt (messages_to link s.acts)) (sym (asked_after state client request))
       (acts_spelt link first.acts (reply_step now client request).acts tells.spelt
       (acts_spelt link (sends (client_link client) answer.messages) (outcome_step next (client_link client) answer.outcome).acts
-      (sends_spelt link (client_link client) answer.messages (answer_spelt now.world.limit now.world now.options client request tells.kept.world utf8))
+      (sends_spelt link (client_link client) answer.messages (answer_spelt now.world.limit now.world (context_of now) client request tells.kept.world tells.kept.rows utf8))
       (follows_spelt link next (client_link client) answer.outcome (reply_text now client line request e) (kept-put link now (client_link client) answer.client (reply_link now client line request e) tells.kept))))
 
   came : (o : Option Client) → AllSpelt (messages_to link (link_line_step state k line o).acts)

@@ -1,18 +1,17 @@
 -- Changes reach the client that follows them, for each part that it may hold.
-use Rattle.std.proofs.Common.{◌≡◌, ℕ, ◌≤◌, Bool, true, false, cond, List, [], ◌∷◌, ◌++◌, Option, Some, None, refl, sym, ap, subst, ◌∙◌, arith, eqb, IsUtf8}
+use Rattle.std.proofs.Common.{◌≡◌, ℕ, ◌≤◌, Bool, true, false, cond, List, [], ◌∷◌, ◌++◌, Option, Some, None, refl, sym, ap, subst, ◌∙◌, eqb, IsUtf8}
 use Rattle.std.specs.List.{AllByRecursion, flat_map}
 use Rattle.std.proofs.lemmas.Bool.{false≢true}
 use Rattle.std.proofs.lemmas.List.Elements.{All-nil}
 use Rattle.wc_text.specs.declared.names.Handle.{Handle}
-use Rattle.wc_lines.specs.Ring.{counted}
 use Rattle.wc_buffers.specs.Calls.{entry_of, lacks_var}
 use Rattle.wc_model.specs.declared.change.Change.{Change}
 use Rattle.wc_model.specs.declared.change.What.{What}
-use Rattle.wc_model.specs.declared.change.What.TheVariants.{SetVar, Limit}
+use Rattle.wc_model.specs.declared.change.What.TheVariants.{SetVar}
 use Rattle.wc_model.specs.declared.notice.Notice.{Notice}
 use Rattle.wc_model.specs.declared.refused.ChangeRefused.{ChangeRefused}
 use Rattle.wc_model.specs.World.{World}
-use Rattle.wc_model.specs.Apply.{refusal, after_of, after}
+use Rattle.wc_model.specs.Apply.{refusal, after}
 use Rattle.wc_model.specs.Notices.{var_kind, kind_of, notice}
 use Rattle.wc_model.specs.Parts.{parts_of}
 use Rattle.wc_model.specs.Touches.{told_after}
@@ -27,14 +26,16 @@ use Rattle.wc_core.specs.Step.{client_link, no_step, then_does, sends, told_to, 
 use Rattle.wc_core.specs.Served.{messages_to}
 use Rattle.wc_core.proofs.MessageLemmas.{messages_to-append}
 use Rattle.wc_view.specs.NickFold.{NickPart}
+use Rattle.wc_mirror_laws.proofs.HotlistKept.{after_small}
 use Rattle.wc_mirror_laws.specs.Held.{HeldPart, Lines, HeldOf, Has}
-use Rattle.wc_view.specs.Views.{heard_parts}
-use Rattle.wc_mirror_laws.specs.Settled.{client_on, is_following, IsPlain, IsLimited}
+use Rattle.wc_view.specs.Views.{heard_parts, Suits}
+use Rattle.wc_mirror_laws.specs.Settled.{client_on, is_following, IsPlain, LimitStays}
 use Rattle.wc_mirror_laws.specs.Kept.{IsStateKept}
 use Rattle.wc_mirror_laws.specs.Mirrors.{fold_all, mirror_after, ChangeKeeps, ChangeMirrors}
 use Rattle.wc_mirror_laws.proofs.ClientLemmas.{following-heard, plain-heard, first-heard, sends_each, told-first, told_nothing, IsOwn, told_heard, messages-sends}
 use Rattle.wc_mirror_laws.proofs.IdLemmas.{id_free}
 use Rattle.wc_mirror_laws.proofs.HeldLemmas.{fold_all-append, parts_messages, change_right}
+use Rattle.wc_mirror_laws.proofs.LimitLemmas.{Counts, counts_same, counts_after, counts_then, stays_first, stays_second, suits_before, suits_after}
 use Rattle.wc_mirror_laws.proofs.ListLemmas.{all_more}
 use Rattle.wc_mirror_laws.proofs.NoticeLemmas.{IsTelling, telling, parts_telling}
 use Rattle.wc_mirror_laws.proofs.PrintLemmas.{level_fits}
@@ -80,19 +81,19 @@ clients_spelt link told (client ∷ clients) all =
 -- ---- what is done
 
 -- What is done to the state: what always holds does so still, each message keeps the rules, and a client that follows has
--- its part after it. A client that did not ask for lines that went did not do so afterwards, and a limit that was never
--- changed afterwards was not changed before.
+-- its part after it. A client that did not ask for lines that went did not do so afterwards, and each change of the limit is
+-- counted.
 pub record Tells (which : HeldPart) (limit : Option ℕ) (link : ℕ) (id : List ℕ) (state : State) (stepped : Stepped) : Type 0 where
   pub following : is_following limit (client_on link stepped.state) ≡ is_following limit (client_on link state)
   pub kept : IsStateKept link stepped.state
   pub plain : IsPlain limit (client_on link state) → IsPlain limit (client_on link stepped.state)
-  pub back : IsLimited limit stepped.state.world → IsLimited limit state.world
+  pub counts : Counts state.world stepped.state.world
   pub spelt : AllSpelt (messages_to link stepped.acts)
-  pub right : is_following limit (client_on link state) ≡ true → IsPlain limit (client_on link state) → IsLimited limit stepped.state.world → (part : HeldOf which) → Has which part state
+  pub right : is_following limit (client_on link state) ≡ true → IsPlain limit (client_on link state) → LimitStays limit state.world stepped.state.world → (part : HeldOf which) → Has which part state
       → Has which (mirror_after which limit link id part stepped.acts) stepped.state
 
 pub Tells-stays : (which : HeldPart) (limit : Option ℕ) (link : ℕ) (id : List ℕ) (state : State) → IsStateKept link state → Tells which limit link id state (no_step state)
-Tells-stays which limit link id state kept = record { following = refl; kept = kept; plain = λ plain. plain; back = λ limited. limited; spelt = tt; right = λ follows plain limited part had. had }
+Tells-stays which limit link id state kept = record { following = refl; kept = kept; plain = λ plain. plain; counts = counts_same state.world; spelt = tt; right = λ follows plain stays part had. had }
 
 pub Tells-then : (which : HeldPart) (limit : Option ℕ) (link : ℕ) (id : List ℕ) (state : State) (first : Stepped) (others : State → Stepped) → Tells which limit link id state first → Tells which limit link id first.state (others first.state)
     → Tells which limit link id state (then_does first others)
@@ -100,25 +101,17 @@ Tells-then which limit link id state first others a b = record {
   following = b.following ∙ a.following;
   kept = b.kept;
   plain = λ plain. b.plain (a.plain plain);
-  back = λ limited. a.back (b.back limited);
+  counts = counts_then state.world first.state.world (others first.state).state.world a.counts b.counts;
   spelt = acts_spelt link first.acts (others first.state).acts a.spelt b.spelt;
-  right = λ follows plain limited part had.
+  right = λ follows plain stays part had.
       let last = (others first.state).state in
+      let here = stays_first limit state.world first.state.world last.world b.counts stays in
+      let then = stays_second limit state.world first.state.world last.world a.counts b.counts stays in
       subst (λ part. Has which part last) (sym (mirror-append which limit link id part first.acts (others first.state).acts))
-      (b.right (a.following ∙ follows) (a.plain plain) limited (mirror_after which limit link id part first.acts) (a.right follows plain (b.back limited) part had));
+      (b.right (a.following ∙ follows) (a.plain plain) then (mirror_after which limit link id part first.acts) (a.right follows plain here part had));
 }
 
 -- ---- a change
-
--- a limit that was changed stays one that was
-never_none : (n : ℕ) → counted n ≡ 0 → ⊥
-never_none n e = omega (arith, e)
-
-after_back : (limit : Option ℕ) (w : World) (h : Handle) (a : What) → IsLimited limit (after_of w h a) → IsLimited limit w
-unfolding after_of
-after_back None w h a is = tt
-after_back (Some limit) w h (Limit other) is = absurd (never_none w.limit_changes is.1)
-after_back (Some limit) w h _ is = is
 
 own_var : (b : Bool) → IsOwn (var_kind b)
 own_var true = tt
@@ -137,6 +130,18 @@ told_event limit link state told world n kept own follows plain = by (client_on 
   by None at e plain = absurd (false≢true e)
   by (Some client) at e plain = told-first link (notice_told world n) (told_nothing world n) state.clients client kept.first at ∙ told_heard limit world n client own e plain
 
+-- a change leaves a client that had a part with it, where its limit is that of the world before and after
+change_has : (which : HeldPart) (limit : Option ℕ) (link : ℕ) (id : List ℕ) (state : State) (change : Change) (part : HeldOf which) → IsStateKept link state → BeginsWithout 95 id → IsTold change.what
+    → refusal state.world change ≡ None → is_following limit (client_on link state) ≡ true → IsPlain limit (client_on link state) → Suits limit state.world → Suits limit (after state.world change) → Has which part state
+    → Has which (mirror_after which limit link id part (change_step state change).acts) (change_step state change).state
+change_has which limit link id state change part kept free told good follows plain before then had =
+    let w = state.world in
+    let v = after w change in
+    let new = (change_step state change).state in
+    let event = told_event limit link state (told_after w change.buffer change.what state.told) v (notice w change) kept (own_kind w change.buffer change.what) follows plain in
+    subst (λ part. Has which part new) (sym (ap (fold_all which limit id part) event))
+    (change_right which limit id part state change kept.most kept.world kept.told told (id_free id free) good before then had)
+
 pub Tells-changes : (which : HeldPart) (limit : Option ℕ) (link : ℕ) (id : List ℕ) (state : State) (change : Change) → BeginsWithout 95 id → IsStateKept link state → IsTold change.what
     → refusal state.world change ≡ None → Tells which limit link id state (change_step state change)
 Tells-changes which limit link id state change free kept told good =
@@ -146,32 +151,30 @@ Tells-changes which limit link id state change free kept told good =
     let is = after_kept w.limit w change.buffer change.what kept.world told good in
     let tells = telling w.limit w change.buffer change.what kept.most kept.world told good in
     let most = limit_most w.limit change.what told kept.most in
-    let back = after_back limit w change.buffer change.what in
+    let counts = counts_after w change.buffer change.what in
     record {
       following = following-heard limit n.kind n.buffer.0 link state.clients;
       kept = record {
         most = subst (λ n. n ≤ 4096) (sym is.same) most;
         texts = kept.texts;
+        rows = after_small w state.hotlist change.buffer change.what tells.buffer kept.rows;
         world = subst (λ n. IsWorldKept n v) (sym is.same) is;
         told = told_kept w.limit w change.buffer change.what state.told kept.world told good kept.told;
         first = first-heard n.kind n.buffer.0 link state.clients kept.first;
       };
       plain = plain-heard limit n.kind n.buffer.0 link state.clients;
-      back = back;
+      counts = counts;
       spelt = clients_spelt link (notice_told v n) state.clients
-          (λ client. told_spelt v (parts_of v n) client (all_more IsTelling (λ part. AllSpelt (event_messages v part)) (parts_of v n) (λ part tells. event_spelt (limit_after w.limit change.what) v part is tells) (parts_telling v n tells)));
-      right = λ follows plain limited part had.
-          let new = (change_step state change).state in
-          let event = told_event limit link state (told_after w change.buffer change.what state.told) v n kept (own_kind w change.buffer change.what) follows plain in
-          subst (λ part. Has which part new) (sym (ap (fold_all which limit id part) event))
-          (change_right which limit id part state change kept.most kept.world kept.told told (id_free id free) good (back limited) limited had);
+          (λ client. told_spelt v (parts_of v n) client (all_more IsTelling (λ part. AllSpelt (event_messages v part)) (parts_of v n) (λ part tells. event_spelt (limit_after w.limit change.what) v part is tells) (parts_telling (limit_after w.limit change.what) v n is tells)));
+      right = λ follows plain stays part had.
+          change_has which limit link id state change part kept free told good follows plain (suits_before limit w v stays) (suits_after limit w v counts stays) had;
     }
 
 pub change_keeps : ChangeKeeps
 change_keeps link state change kept told good = (Tells-changes Lines None link [] state change tt kept told good).kept
 
 pub change_mirrors : (which : HeldPart) → ChangeMirrors which
-change_mirrors which limit link id state change part kept free told good plain follows limited had = (Tells-changes which limit link id state change free kept told good).right follows plain limited part had
+change_mirrors which limit link id state change part kept free told good plain follows before then had = change_has which limit link id state change part kept free told good follows plain before then had
 
 -- a refusal that is told
 pub Tells-tells : (which : HeldPart) (limit : Option ℕ) (link : ℕ) (id : List ℕ) (state : State) (text : List ℕ) → BeginsWithout 95 id → IsStateKept link state → Tells which limit link id state (refusal_step state text)

@@ -1,6 +1,6 @@
 -- The clients of a link, of which the first alone is told events.
-use Rattle.std.proofs.Common.{◌≡◌, ℕ, Bool, true, false, cond, ◌&&◌, ◌||◌, List, [], ◌∷◌, ◌++◌, map, Option, Some, None, is_some, option_map, refl, sym, ap, ◌∙◌, arith, eqb, append-nil, not}
-use Rattle.std.specs.List.{flat_map}
+use Rattle.std.proofs.Common.{◌≡◌, ℕ, Bool, true, false, cond, ◌&&◌, ◌||◌, List, [], ◌∷◌, ◌++◌, map, filter, Option, Some, None, is_some, option_map, refl, sym, ap, ◌∙◌, arith, eqb, append-nil, not}
+use Rattle.std.specs.List.{AllByRecursion, flat_map}
 use Rattle.std.proofs.lemmas.Bool.{false≢true, or_parts}
 use Rattle.std.proofs.lemmas.Bool.Decides.{nat_tests}
 use Rattle.wc_text.specs.declared.names.Handle.{Handle}
@@ -9,7 +9,8 @@ use Rattle.wc_model.specs.declared.notice.EventKind.{EventKind}
 use Rattle.wc_model.specs.declared.notice.EventKind.TheVariants as kind
 use Rattle.wc_model.specs.declared.notice.Notice.{Notice}
 use Rattle.wc_model.specs.declared.notice.Trim.{Trim}
-use Rattle.wc_model.specs.Parts.{trim_part, parts_of}
+use Rattle.wc_model.specs.Order.{order}
+use Rattle.wc_model.specs.Parts.{has_flips, flag_part, flag_parts, trim_part, parts_of}
 use Rattle.wc_model.specs.World.{World}
 use Rattle.wc_nickdiff.specs.declared.diff_item.Push.{Push}
 use Rattle.wc_nickdiff.specs.declared.diff_item.Push.TheVariants.{Nothing, Diff, Full}
@@ -408,23 +409,40 @@ untrimmed world (trim ∷ trims) client plain =
     let more = untrimmed world trims client plain in
     rw (trims_unfollowed trim.buffer.0 client plain) more
 
--- the kind of the event of a change
+-- the kind of the event of a change, and of that of flags
 abbrev pub IsOwn : EventKind → Type 0
 IsOwn kind.LinesTrimmed = ⊥
 IsOwn _ = Unit {0}
+
+abbrev AreOwn : List Notice → Type 0
+AreOwn parts = AllByRecursion (λ (part : Notice). IsOwn part.kind) parts
 
 own_heard : (limit : Option ℕ) (k : EventKind) → IsOwn k → IsHeard limit k
 own_heard limit kind.LinesTrimmed own = absurd own
 own_heard limit _ own = tt
 
+each_own : (flips : List Handle) (buffers : List ℕ) → AreOwn (map (flag_part flips) buffers)
+each_own flips [] = tt
+each_own flips (buffer ∷ buffers) = (tt, each_own flips buffers)
+
+flags_own : (world : World) (flips : List Handle) → AreOwn (flag_parts world flips)
+flags_own world [] = tt
+flags_own world (flip ∷ flips) = each_own (flip ∷ flips) (filter (has_flips world (flip ∷ flips)) (order world.groups))
+
+-- all but the lines that went
+own_told : (limit : ℕ) (world : World) (parts : List Notice) (trims : List Trim) (client : Client) → AreOwn parts → follows_all (Some limit) client ≡ true → HasNoTrims (Some client)
+    → parts_told world (parts ++ map trim_part trims) client ≡ flat_map (event_messages world) parts
+own_told limit world [] trims client own e plain = untrimmed world trims client plain
+own_told limit world (part ∷ parts) trims client own e plain =
+    let here = told_each (Some limit) world part client (own_heard (Some limit) part.kind own.0) e in
+    let more = own_told limit world parts trims (after_event part.kind part.buffer.0 client) own.1 e (after_plain part.kind part.buffer.0 client plain) in
+    λ i. here i ++ more i
+
 -- a client that follows all events is told the parts that a mirror needs
 pub told_heard : (limit : Option ℕ) (world : World) (notice : Notice) (client : Client) → IsOwn notice.kind → follows_all limit client ≡ true → IsPlain limit (Some client)
     → notice_told world notice client ≡ flat_map (event_messages world) (heard_parts limit world notice)
 told_heard None world notice client own e plain = all_told world (parts_of world notice) client e
-told_heard (Some limit) world notice client own e plain =
-    let here = told_each (Some limit) world notice client (own_heard (Some limit) notice.kind own) e in
-    let more = untrimmed world notice.trims (after_event notice.kind notice.buffer.0 client) (after_plain notice.kind notice.buffer.0 client plain) in
-    λ i. here i ++ more i
+told_heard (Some limit) world notice client own e plain = own_told limit world (notice ∷ flag_parts world notice.flips) notice.trims client (own, flags_own world notice.flips) e plain
 
 -- ---- pushes
 

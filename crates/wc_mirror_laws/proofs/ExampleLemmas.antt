@@ -22,11 +22,13 @@ use Rattle.wc_session.specs.Handshakes.{first_choice, algorithm_for}
 use Rattle.wc_session.specs.Heeded.{password_of, masks_of}
 use Rattle.wc_session.specs.Known.{new_client}
 use Rattle.wc_session.specs.Logins.{pairs_let_in, lets_in}
-use Rattle.wc_session.specs.Reply.{Answer, silent, leaves, replies, init_answer, served, reply_of, hdata_objects, nicklist_objects}
+use Rattle.wc_session.specs.Reply.{Answer, silent, leaves, replies, init_answer, served, reply_of, hdata_answered, hdata_objects, nicklist_objects}
+use Rattle.wc_session.specs.RequestContext.{Context}
 use Rattle.wc_session.specs.Sending.{reply}
 use Rattle.wc_session.specs.Names.{buffer_named}
 use Rattle.wc_session.specs.Sync.{usual_options, of_buffer, put_to, at_named, synchronized}
 use Rattle.wc_options.specs.Number.{number_in}
+use Rattle.wc_core.specs.Contexts.{context_with}
 use Rattle.wc_core.specs.Events.{Event, Arrives, Line}
 use Rattle.wc_core.specs.Limits.{client_limit}
 use Rattle.wc_core.specs.State.{State, Stepped, Closes, first_state}
@@ -117,6 +119,10 @@ password_given =
     let pairs = pairs_of (codes "password=x") in
     ap (λ p. pairs_let_in pairs p [] (algorithm_for (masks_of only_password) came.chosen)) password_is ∙ ap (λ m. pairs_let_in pairs (codes "x") [] (first_choice m)) masks_are ∙ ap (pairs_let_in pairs (codes "x") []) plain_allowed ∙ password_lets_in
 
+-- what they are answered from beside the buffers
+abbrev asked_from : Context
+asked_from = context_with only_password []
+
 -- the groups of the core buffer alone
 abbrev core_alone : EntryGroups
 core_alone = with_buffer core_row [] []
@@ -124,32 +130,32 @@ core_alone = with_buffer core_row [] []
 abbrev synced : Option ℕ → Client
 synced limit = synchronized core_alone known (codes "*" ∷ []) (sync_options limit)
 
-init_answered : (lines : ℕ) → reply_of (first_world lines) only_password came init_request ≡ silent known
+init_answered : (lines : ℕ) → reply_of (first_world lines) asked_from came init_request ≡ silent known
 unfolding reply_of served init_answer init_request
 init_answered lines = ap (λ b. cond b (silent known) (leaves came cause.LoginFailed)) password_given
 
-sync_answered : (limit : Option ℕ) (lines : ℕ) → reply_of (first_world lines) only_password known (sync_request limit) ≡ silent (synced limit)
+sync_answered : (limit : Option ℕ) (lines : ℕ) → reply_of (first_world lines) asked_from known (sync_request limit) ≡ silent (synced limit)
 unfolding reply_of served sync_request
 sync_answered limit lines = refl
 
 abbrev told : ℕ → List WireMessage
 told lines = reply (codes "l") (hdata_objects (first_world lines) (codes "buffer:gui_buffers(*)/own_lines/first_line(*)/data") (codes "buffer,id,date,date_usec,date_printed,date_usec_printed,displayed,notify_level,highlight,tags_array,prefix,message"))
 
-dump_answered : (limit : Option ℕ) (lines : ℕ) → reply_of (first_world lines) only_password (synced limit) dump_request ≡ replies (synced limit) (told lines)
-unfolding reply_of served dump_request synchronized
+dump_answered : (limit : Option ℕ) (lines : ℕ) → reply_of (first_world lines) asked_from (synced limit) dump_request ≡ replies (synced limit) (told lines)
+unfolding reply_of served hdata_answered dump_request synchronized
 dump_answered limit lines = refl
 
 abbrev told_buffers : ℕ → List WireMessage
 told_buffers lines = reply (codes "b") (hdata_objects (first_world lines) (codes "buffer:gui_buffers(*)") (codes "number,full_name,short_name,hidden,title,local_variables"))
 
-buffers_answered : (limit : Option ℕ) (lines : ℕ) → reply_of (first_world lines) only_password (synced limit) buffers_request ≡ replies (synced limit) (told_buffers lines)
-unfolding reply_of served buffers_request synchronized
+buffers_answered : (limit : Option ℕ) (lines : ℕ) → reply_of (first_world lines) asked_from (synced limit) buffers_request ≡ replies (synced limit) (told_buffers lines)
+unfolding reply_of served hdata_answered buffers_request synchronized
 buffers_answered limit lines = refl
 
 abbrev told_nicks : ℕ → List WireMessage
 told_nicks lines = reply (codes "n") (nicklist_objects (first_world lines) None)
 
-nicks_answered : (limit : Option ℕ) (lines : ℕ) → reply_of (first_world lines) only_password (synced limit) nicks_request ≡ replies (synced limit) (told_nicks lines)
+nicks_answered : (limit : Option ℕ) (lines : ℕ) → reply_of (first_world lines) asked_from (synced limit) nicks_request ≡ replies (synced limit) (told_nicks lines)
 unfolding reply_of served nicks_request synchronized
 nicks_answered limit lines = refl
 
@@ -215,14 +221,14 @@ module _ (oracle : Oracle) where
 
   -- the state after a line
   line_state : (lines : ℕ) (client : Client) (line : List ℕ) (request : Request) (answer : Answer) → client_link client ≡ 1 → request_of client.escaped line ≡ Some request
-      → reply_of (first_world lines) only_password client request ≡ answer → (step (with_client lines client) (Line 1 line)).state ≡ (answer_step (with_client lines client) 1 answer).state
+      → reply_of (first_world lines) asked_from client request ≡ answer → (step (with_client lines client) (Line 1 line)).state ≡ (answer_step (with_client lines client) 1 answer).state
   line_state lines client line request answer key reads answered =
       let state = with_client lines client in
       ap (λ o. (link_line_step state 1 line o).state) (found client key) ∙ ap (λ o. (request_step state client o).state) reads
       ∙ ap (λ (s : Stepped). s.state) (asked_after state client request) ∙ ap (λ s. (reply_step s client request).state) (told_already state (lists_nicks client request) refl) ∙ ap (λ a. (answer_step state (client_link client) a).state) answered ∙ ap (λ n. (answer_step state n answer).state) key
 
   silent_step : (lines : ℕ) (before after : Client) (line : List ℕ) (request : Request) → client_link before ≡ 1 → request_of before.escaped line ≡ Some request
-      → reply_of (first_world lines) only_password before request ≡ silent after → (step (with_client lines before) (Line 1 line)).state ≡ with_client lines after
+      → reply_of (first_world lines) asked_from before request ≡ silent after → (step (with_client lines before) (Line 1 line)).state ≡ with_client lines after
   silent_step lines before after line request key reads answered =
       line_state lines before line request (silent after) key reads answered
       ∙ ap (λ n. record (first_state oracle only_password lines []) { used = 1; clients = cond (eqb n 1) (after ∷ []) (before ∷ []) }) key
@@ -232,7 +238,7 @@ module _ (oracle : Oracle) where
   line_asked lines client line request key reads = ap (asked_by line) (found client key) ∙ ap (asked_with client) reads
 
   next_asked : (lines : ℕ) (before after : Client) (line : List ℕ) (request : Request) (events : List Event) → client_link before ≡ 1 → request_of before.escaped line ≡ Some request
-      → reply_of (first_world lines) only_password before request ≡ silent after
+      → reply_of (first_world lines) asked_from before request ≡ silent after
       → asked_on 1 (with_client lines before) (Line 1 line ∷ events) ≡ request_by before request ∷ asked_on 1 (with_client lines after) events
   next_asked lines before after line request events key reads answered =
       ap (λ a. a ++ asked_on 1 (step (with_client lines before) (Line 1 line)).state events) (line_asked lines before line request key reads)
@@ -249,7 +255,7 @@ module _ (oracle : Oracle) where
   -- ---- the line of a dump
 
   module _ (limit : Option ℕ) (line : List ℕ) (request : Request) (told : ℕ → List WireMessage) (reads : request_of false line ≡ Some request)
-      (answered : (lines : ℕ) → reply_of (first_world lines) only_password (synced limit) request ≡ replies (synced limit) (told lines)) where
+      (answered : (lines : ℕ) → reply_of (first_world lines) asked_from (synced limit) request ≡ replies (synced limit) (told lines)) where
     line_reads : request_of (synced limit).escaped line ≡ Some request
     unfolding synchronized
     line_reads = reads

@@ -1,5 +1,5 @@
 -- What a client makes of the event of a change and of a dump, for each part that it may hold.
-use Rattle.std.proofs.Common.{◌≡◌, ℕ, ◌-◌, ◌^◌, ◌≤◌, cond, List, [], ◌∷◌, ◌++◌, map, length, Option, Some, None, refl, sym, ap, subst, ◌∙◌, arith}
+use Rattle.std.proofs.Common.{◌≡◌, ℕ, ◌-◌, ◌^◌, ◌≤◌, cond, List, [], ◌∷◌, ◌++◌, length, Option, Some, None, refl, sym, ap, subst, ◌∙◌, arith}
 use Rattle.std.specs.Prelude.{Result, Ok, Err}
 use Rattle.std.specs.List.{AllByRecursion, flat_map, cons_option}
 use Rattle.std.proofs.lemmas.Slice.Eq.{bytes_eq-Decides}
@@ -7,14 +7,11 @@ use Rattle.wc_buffers.specs.Calls.{EntryGroups}
 use Rattle.wc_buffers.specs.Groups.{AllFilled}
 use Rattle.wc_buffers.specs.Kept.{handles}
 use Rattle.wc_model.specs.declared.change.Change.{Change}
-use Rattle.wc_model.specs.declared.change.What.{What}
-use Rattle.wc_model.specs.declared.change.What.TheVariants as what
-use Rattle.wc_model.specs.World.{World, rows_at}
+use Rattle.wc_model.specs.World.{World, lines_at, rows_at}
 use Rattle.wc_model.specs.Apply.{refusal, after}
 use Rattle.wc_model.specs.declared.notice.Notice.{Notice}
-use Rattle.wc_model.specs.declared.notice.Trim.{Trim}
 use Rattle.wc_model.specs.Notices.{notice}
-use Rattle.wc_model.specs.Parts.{trim_part}
+use Rattle.wc_model.specs.Parts.{flag_part, trim_part}
 use Rattle.wc_model.specs.Touches.{told_after}
 use Rattle.wc_objects.specs.declared.object.Object.{Object}
 use Rattle.wc_objects.specs.declared.object.WireMessage.{WireMessage}
@@ -25,16 +22,16 @@ use Rattle.wc_events.specs.NickObjects.{nick_dump}
 use Rattle.wc_session.specs.Event.{event_messages}
 use Rattle.wc_session.specs.Sending.{message}
 use Rattle.wc_view.specs.Ids.{IsFree}
-use Rattle.wc_view.specs.Views.{HasAll, SetsNoFlags, Suits, heard_parts, part_events, fold_all as fold_lines_all}
+use Rattle.wc_view.specs.Views.{HasAll, Suits, heard_parts, part_events, fold_all as fold_lines_all}
 use Rattle.wc_view.specs.BufferViews.{HasBuffers, AreGrouped, fold_told_buffers}
 use Rattle.wc_view.specs.NickFold.{NickPart, fold_nicks}
 use Rattle.wc_view.specs.NickViews.{HasNicks, HasLists, fold_told_nicks}
 use Rattle.wc_view.proofs.DumpLaw.{dump_shows}
 use Rattle.wc_view.proofs.NoticeLaw.{notice_shows}
 use Rattle.wc_view.proofs.BufferDump.{dump_shows as dump_shows_buffers}
-use Rattle.wc_view.proofs.BufferLaw.{notice_shows as notice_shows_buffers, trim_shows as trim_shows_buffers}
+use Rattle.wc_view.proofs.BufferLaw.{notice_shows as notice_shows_buffers, flag_shows as flag_shows_buffers, trim_shows as trim_shows_buffers}
 use Rattle.wc_view.proofs.NickDump.{dump_shows as dump_shows_nicks}
-use Rattle.wc_view.proofs.NickNotice.{notice_shows as notice_shows_nicks, trim_shows as trim_shows_nicks}
+use Rattle.wc_view.proofs.NickNotice.{notice_shows as notice_shows_nicks, flag_shows as flag_shows_nicks, trim_shows as trim_shows_nicks}
 use Rattle.wc_board.specs.Told.{Told}
 use Rattle.wc_core.specs.State.{State}
 use Rattle.wc_core.specs.Step.{change_step}
@@ -43,17 +40,16 @@ use Rattle.wc_mirror_laws.specs.Nicks.{AreListsKept}
 use Rattle.wc_mirror_laws.specs.Roots.{HasRoots}
 use Rattle.wc_mirror_laws.specs.Worlds.{IsWorldKept}
 use Rattle.wc_mirror_laws.specs.Mirrors.{fold_all}
-use Rattle.wc_mirror_laws.specs.Settled.{IsLimited}
 use Rattle.wc_mirror_laws.proofs.BufferSizes.{buffer_dump_size}
 use Rattle.wc_mirror_laws.proofs.DumpLemmas.{few_groups}
 use Rattle.wc_mirror_laws.proofs.NickDumps.{nick_dump_size}
 use Rattle.wc_mirror_laws.proofs.NickRows.{tellable}
-use Rattle.wc_mirror_laws.proofs.NoticeLemmas.{IsTrimTold, IsTelling, telling, trim_telling, parts_telling, drawn, stands}
-use Rattle.wc_mirror_laws.proofs.RootEvents.{fold_told_roots, change_roots, trim_roots, dump_roots}
+use Rattle.wc_mirror_laws.proofs.NoticeLemmas.{IsTelling, telling, trim_telling, flag_telling, others_heard, others_all, drawn, contents_differ, stands}
+use Rattle.wc_mirror_laws.proofs.RootEvents.{fold_told_roots, change_roots, flag_roots, trim_roots, dump_roots}
 use Rattle.wc_mirror_laws.proofs.SizeLemmas.{dump_size}
 use Rattle.wc_mirror_laws.proofs.TellingLemmas.{messages_of, event_whole}
 use Rattle.wc_mirror_laws.specs.Changes.{IsTold}
-use Rattle.wc_mirror_laws.proofs.WorldLemmas.{once, limit_after, after_kept}
+use Rattle.wc_mirror_laws.proofs.WorldLemmas.{once, limit_after, after_kept, limit_most}
 
 -- ---- a world, in the words of the mirror's buffers
 
@@ -81,11 +77,6 @@ listed limit world is = record {
 
 -- ---- the event of a change
 
-no_flags : (a : What) → IsTold a → SetsNoFlags a
-no_flags (what.Rename name flips) told = told.1
-no_flags (what.Flips flips) told = told
-no_flags _ told = tt
-
 pub fold_all-append : (which : HeldPart) (limit : Option ℕ) (id : List ℕ) (part : HeldOf which) (a b : List WireMessage) → fold_all which limit id part (a ++ b) ≡ fold_all which limit id (fold_all which limit id part a) b
 fold_all-append which limit id part [] b = refl
 fold_all-append which limit id part (m ∷ a) b = fold_all-append which limit id (fold_one which limit id part m) a b
@@ -110,95 +101,101 @@ nicks_told limit id held told new (Some m) had rows roots = record { rows = ap (
 abbrev pub parts_messages : World → List Notice → List WireMessage
 parts_messages v parts = flat_map (event_messages v) parts
 
--- the trims that a mirror hears of
-abbrev heard_trims : Option ℕ → Notice → List Trim
-heard_trims None n = n.trims
-heard_trims (Some limit) n = []
-
-heard : (limit : Option ℕ) (v : World) (n : Notice) → heard_parts limit v n ≡ n ∷ map trim_part (heard_trims limit n)
+heard : (own : Option ℕ) (v : World) (n : Notice) → heard_parts own v n ≡ n ∷ others_heard own v n
 heard None v n = refl
 heard (Some limit) v n = refl
 
-heard_small : (limit : Option ℕ) (n : Notice) → IsTelling n → AllByRecursion IsTrimTold (heard_trims limit n)
-heard_small None n tells = tells.trims
-heard_small (Some limit) n tells = tt
-
-heard_telling : (limit : Option ℕ) (v : World) (n : Notice) → IsTelling n → AllByRecursion IsTelling (heard_parts limit v n)
-heard_telling None v n tells = parts_telling v n tells
-heard_telling (Some limit) v n tells = (tells, tt)
+heard_telling : (own : Option ℕ) (limit : ℕ) (v : World) (n : Notice) → IsWorldKept limit v → IsTelling n → AllByRecursion IsTelling (heard_parts own v n)
+heard_telling own limit v n is tells = subst (AllByRecursion IsTelling) (sym (heard own v n)) (tells, others_all IsTelling own limit v n is tells flag_telling trim_telling)
 
 one_more : (o : Option WireMessage) (messages : List WireMessage) → messages_of o ++ messages ≡ cons_option o messages
 one_more None messages = refl
 one_more (Some m) messages = refl
 
 -- none of them is too long to be told
-parts_whole : (limit : ℕ) (v : World) (parts : List Notice) → IsWorldKept limit v → AllByRecursion IsTelling parts → parts_messages v parts ≡ part_events v parts
-parts_whole limit v [] is all = refl
-parts_whole limit v (part ∷ parts) is all =
-    let here = event_whole limit v part is all.0 in
-    let more = parts_whole limit v parts is all.1 in
+parts_whole : (limit : ℕ) (v : World) (parts : List Notice) → limit ≤ 4096 → IsWorldKept limit v → AllByRecursion IsTelling parts → parts_messages v parts ≡ part_events v parts
+parts_whole limit v [] most is all = refl
+parts_whole limit v (part ∷ parts) most is all =
+    let here = event_whole limit v part most is all.0 in
+    let more = parts_whole limit v parts most is all.1 in
     (λ i. here i ++ more i) ∙ one_more (event_of v part) (part_events v parts)
 
--- the event of a change, and then those of trims that leave a part as it is
-own_and_trims : (which : HeldPart) (limit : Option ℕ) (id : List ℕ) (part : HeldOf which) (v : World) (n : Notice) (P : HeldOf which → Type 0)
-    → P (fold_all which limit id part (event_messages v n)) → ((held : HeldOf which) (trim : Trim) → IsTrimTold trim → P held → P (fold_all which limit id held (event_messages v (trim_part trim))))
-    → IsTelling n → P (fold_all which limit id part (parts_messages v (heard_parts limit v n)))
-own_and_trims which limit id part v n P own each tells =
-    subst (λ parts. P (fold_all which limit id part (parts_messages v parts))) (sym (heard limit v n))
-    (subst P (sym (fold_all-append which limit id part (event_messages v n) (parts_messages v (map trim_part (heard_trims limit n)))))
-    (go (heard_trims limit n) (fold_all which limit id part (event_messages v n)) (heard_small limit n tells) own))
-  where
-    go : (trims : List Trim) (held : HeldOf which) → AllByRecursion IsTrimTold trims → P held → P (fold_all which limit id held (parts_messages v (map trim_part trims)))
-    go [] held all p = p
-    go (trim ∷ trims) held all p =
-        let now = fold_all which limit id held (event_messages v (trim_part trim)) in
-        subst P (sym (fold_all-append which limit id held (event_messages v (trim_part trim)) (parts_messages v (map trim_part trims))))
-        (go trims now all.1 (each held trim all.0 p))
+-- what is had stays true of what a client makes of a part
+abbrev Stays : (which : HeldPart) → Option ℕ → List ℕ → World → (HeldOf which → Type 0) → Notice → Type 0
+Stays which limit id v P part = (held : HeldOf which) → P held → P (fold_all which limit id held (event_messages v part))
 
--- what the limit of a mirror has to do with that of the world
-pub suits : (limit : Option ℕ) (w : World) → IsLimited limit w → Suits limit w
-suits None w is = tt
-suits (Some limit) w is = is.0
+-- the event of a change, and then others that leave a part as it is
+own_and_others : (which : HeldPart) (limit : Option ℕ) (id : List ℕ) (part : HeldOf which) (v : World) (n : Notice) (P : HeldOf which → Type 0)
+    → P (fold_all which limit id part (event_messages v n)) → AllByRecursion (Stays which limit id v P) (others_heard limit v n) → P (fold_all which limit id part (parts_messages v (heard_parts limit v n)))
+own_and_others which limit id part v n P own others =
+    subst (λ parts. P (fold_all which limit id part (parts_messages v parts))) (sym (heard limit v n))
+    (subst P (sym (fold_all-append which limit id part (event_messages v n) (parts_messages v (others_heard limit v n))))
+    (go (others_heard limit v n) (fold_all which limit id part (event_messages v n)) others own))
+  where
+    go : (parts : List Notice) (held : HeldOf which) → AllByRecursion (Stays which limit id v P) parts → P held → P (fold_all which limit id held (parts_messages v parts))
+    go [] held all p = p
+    go (part ∷ parts) held all p =
+        let now = fold_all which limit id held (event_messages v part) in
+        subst P (sym (fold_all-append which limit id held (event_messages v part) (parts_messages v parts))) (go parts now all.1 (all.0 held p))
+
+-- the buffers after one part
+buffers_heard : (own : Option ℕ) (limit : ℕ) (id : List ℕ) (held : HeldOf Buffers) (v : World) (part : Notice) → limit ≤ 4096 → IsWorldKept limit v → IsTelling part
+    → fold_all Buffers own id held (event_messages v part) ≡ fold_told_buffers id held (event_of v part)
+buffers_heard own limit id held v part most is tells = ap (fold_all Buffers own id held) (event_whole limit v part most is tells) ∙ buffers_told own id held (event_of v part)
+
+-- the rows and the roots after one part
+nicks_heard : (own : Option ℕ) (limit : ℕ) (id : List ℕ) (held : NicksHeld) (told new : Told) (v : World) (part : Notice) → limit ≤ 4096 → IsWorldKept limit v → IsTelling part → HasToldNicks held told
+    → HasNicks (fold_told_nicks id (Some told) (event_of v part)) new → HasRoots (fold_told_roots id held.roots (event_of v part)) new → HasToldNicks (fold_all Nicks own id held (event_messages v part)) new
+nicks_heard own limit id held told new v part most is tells had rows roots =
+    subst (λ held. HasToldNicks held new) (sym (ap (fold_all Nicks own id held) (event_whole limit v part most is tells))) (nicks_told own id held told new (event_of v part) had rows roots)
 
 -- whoever had a part has it after the events that it heard of
 pub change_right : (which : HeldPart) (limit : Option ℕ) (id : List ℕ) (part : HeldOf which) (state : State) (change : Change) → state.world.limit ≤ 4096 → IsWorldKept state.world.limit state.world
-    → AreListsKept state.world.next state.world.groups state.told → IsTold change.what → IsFree id → refusal state.world change ≡ None → IsLimited limit state.world → IsLimited limit (after state.world change) → Has which part state
+    → AreListsKept state.world.next state.world.groups state.told → IsTold change.what → IsFree id → refusal state.world change ≡ None → Suits limit state.world → Suits limit (after state.world change) → Has which part state
     → Has which (fold_all which limit id part (parts_messages (after state.world change) (heard_parts limit (after state.world change) (notice state.world change)))) (change_step state change).state
 change_right Lines limit id part state change most kept lists told free good before then had =
     let w = state.world in
     let v = after w change in
     let n = notice w change in
     let parts = heard_parts limit v n in
+    let is = after_kept w.limit w change.buffer change.what kept told good in
     let tells = telling w.limit w change.buffer change.what most kept told good in
-    let whole = parts_whole (limit_after w.limit change.what) v parts (after_kept w.limit w change.buffer change.what kept told good) (heard_telling limit v n tells) in
+    let now = limit_after w.limit change.what in
+    let whole = parts_whole now v parts (limit_most w.limit change.what told most) is (heard_telling limit now v n is tells) in
     subst (λ part. HasAll part v) (sym (ap (fold_all Lines limit id part) whole ∙ lines_told limit id part (part_events v parts)))
-    (notice_shows limit id part w change (stands w.limit w most kept) (suits limit w before) (suits limit v then) free good (no_flags change.what told) had)
+    (notice_shows limit id part w change (stands w.limit w most kept) before then free good (λ buffer. contents_differ v.next (lines_at v buffer) (is.apart buffer)) had)
 change_right Buffers limit id part state change most kept lists told free good before then had =
     let w = state.world in
     let v = after w change in
     let n = notice w change in
+    let now = limit_after w.limit change.what in
     let is = after_kept w.limit w change.buffer change.what kept told good in
+    let least = limit_most w.limit change.what told most in
     let tells = telling w.limit w change.buffer change.what most kept told good in
-    let own = ap (fold_all Buffers limit id part) (event_whole (limit_after w.limit change.what) v n is tells) ∙ buffers_told limit id part (event_of v n) in
-    own_and_trims Buffers limit id part v n (λ part. HasBuffers part v) (subst (λ part. HasBuffers part v) (sym own) (notice_shows_buffers id part w change (grouped w.limit w kept) free good had))
-    (λ held trim small p. subst (λ part. HasBuffers part v)
-    (sym (ap (fold_all Buffers limit id held) (event_whole (limit_after w.limit change.what) v (trim_part trim) is (trim_telling trim small)) ∙ buffers_told limit id held (event_of v (trim_part trim)) ∙ trim_shows_buffers id held v trim free)) p)
-    tells
+    let has = λ (held : HeldOf Buffers). HasBuffers held v in
+    own_and_others Buffers limit id part v n has (subst has (sym (buffers_heard limit now id part v n least is tells)) (notice_shows_buffers id part w change (grouped w.limit w kept) free good had))
+    (others_all (Stays Buffers limit id v has) limit now v n is tells
+    (λ flips buffer small held p. subst has (sym (buffers_heard limit now id held v (flag_part flips buffer) least is (flag_telling flips buffer small) ∙ flag_shows_buffers id held v flips buffer free)) p)
+    (λ trim small held p. subst has (sym (buffers_heard limit now id held v (trim_part trim) least is (trim_telling trim small) ∙ trim_shows_buffers id held v trim free)) p))
 change_right Nicks limit id part state change most kept lists told free good before then had =
     let w = state.world in
     let v = after w change in
     let n = notice w change in
+    let now = limit_after w.limit change.what in
     let new = told_after w change.buffer change.what state.told in
     let is = after_kept w.limit w change.buffer change.what kept told good in
+    let least = limit_most w.limit change.what told most in
     let tells = telling w.limit w change.buffer change.what most kept told good in
-    own_and_trims Nicks limit id part v n (λ held. HasToldNicks held new)
-    (subst (λ held. HasToldNicks held new) (sym (ap (fold_all Nicks limit id part) (event_whole (limit_after w.limit change.what) v n is tells)))
-    (nicks_told limit id part state.told new (event_of v n) had
+    let has = λ (held : NicksHeld). HasToldNicks held new in
+    own_and_others Nicks limit id part v n has
+    (nicks_heard limit now id part state.told new v n least is tells had
     (notice_shows_nicks id state.told w change (listed w.limit w kept) (λ buffer. lists.there buffer ∙ sym (kept.nicks.there buffer)) free good)
-    (change_roots id part.roots state.told w change.buffer change.what free had.roots)))
-    (λ held trim small p. subst (λ held. HasToldNicks held new) (sym (ap (fold_all Nicks limit id held) (event_whole (limit_after w.limit change.what) v (trim_part trim) is (trim_telling trim small))))
-    (nicks_told limit id held new new (event_of v (trim_part trim)) p (trim_shows_nicks id (Some new) v trim free) (subst (λ roots. HasRoots roots new) (sym (trim_roots id held.roots v trim free)) p.roots)))
-    tells
+    (change_roots id part.roots state.told w change.buffer change.what free had.roots))
+    (others_all (Stays Nicks limit id v has) limit now v n is tells
+    (λ flips buffer small held p. nicks_heard limit now id held new new v (flag_part flips buffer) least is (flag_telling flips buffer small) p (flag_shows_nicks id (Some new) v flips buffer free)
+    (subst (λ roots. HasRoots roots new) (sym (flag_roots id held.roots v flips buffer free)) p.roots))
+    (λ trim small held p. nicks_heard limit now id held new new v (trim_part trim) least is (trim_telling trim small) p (trim_shows_nicks id (Some new) v trim free)
+    (subst (λ roots. HasRoots roots new) (sym (trim_roots id held.roots v trim free)) p.roots)))
 
 -- ---- the dump
 
@@ -225,10 +222,10 @@ rows_dumped limit id (Ok part) world is = dump_shows_nicks id part world (listed
 rows_dumped limit id (Err place) world is =
     ap (λ b. cond b (fold_nicks id None (message id (nick_dump world))) (Err place)) ((bytes_eq-Decides id id).1 refl) ∙ dump_shows_nicks id None world (listed limit world is)
 
-pub dump_shown : (which : HeldPart) (limit : Option ℕ) (id : List ℕ) (part : HeldOf which) (state : State) → state.world.limit ≤ 4096 → IsWorldKept state.world.limit state.world → IsLimited limit state.world → IsAllTold which state
+pub dump_shown : (which : HeldPart) (limit : Option ℕ) (id : List ℕ) (part : HeldOf which) (state : State) → state.world.limit ≤ 4096 → IsWorldKept state.world.limit state.world → Suits limit state.world → IsAllTold which state
     → Has which (fold_one which limit id part (message id (dump_of which state.world))) state
-dump_shown Lines limit id part state most is limited told = dump_shows limit id part state.world (stands state.world.limit state.world most is) (suits limit state.world limited)
-dump_shown Buffers limit id part state most is limited told = dump_shows_buffers id part state.world (grouped state.world.limit state.world is)
-dump_shown Nicks limit id part state most is limited told =
+dump_shown Lines limit id part state most is suits told = dump_shows limit id part state.world (stands state.world.limit state.world most is) suits
+dump_shown Buffers limit id part state most is suits told = dump_shows_buffers id part state.world (grouped state.world.limit state.world is)
+dump_shown Nicks limit id part state most is suits told =
     subst (HasToldNicks (fold_one Nicks limit id part (message id (nick_dump state.world)))) (sym told)
     (record { rows = rows_dumped state.world.limit id part.rows state.world is; roots = dump_roots state.world.limit id part.roots state.world is })

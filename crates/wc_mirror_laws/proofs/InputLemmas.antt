@@ -12,7 +12,7 @@ use Rattle.wc_options.specs.Number.{number_of, within, number_in}
 use Rattle.wc_options.specs.Options.{OptionsValue, refusal_of as option_refusal, value_of, with_value, without_value}
 use Rattle.wc_options.specs.declared.refusal.SetRefused.{SetRefused}
 use Rattle.wc_options.specs.declared.refusal.SetRefused.TheVariants.{UnknownOption}
-use Rattle.wc_core.specs.Resolved.{Effect, Stays, Ends as ResolvedEnds, Tells as TellsRefusal, Asks, SetsOption, UnsetsOption, SavesOptions, effect_of, option_text}
+use Rattle.wc_core.specs.Resolved.{Effect, Stays, Ends as ResolvedEnds, Tells as TellsRefusal, Asks, SetsOption, UnsetsOption, SavesOptions, ChangesHotlist, effect_of, option_text}
 use Rattle.wc_core.specs.State.{State, Stepped, has_end}
 use Rattle.wc_core.specs.Step.{no_step, then_does, set_step_if, set_step, unset_step_if, unset_step, limit_change, limit_step, set_effect_step, unset_effect_step, ask_step, effect_step, other_of, input_by, input_step, lines_step, core_buffer, commands_step, start_step, plain_step, Evaluation, evaluated_by, input_with, eval_step, evaluation_at}
 use Rattle.wc_core.specs.Changing.{put_step}
@@ -20,10 +20,12 @@ use Rattle.wc_core.specs.Limits.{lines_option, limit_set, limit_unset}
 use Rattle.wc_core.specs.ServerSteps.{before_step}
 use Rattle.wc_core.specs.ServerTyped.{connect_all_step}
 use Rattle.wc_core.specs.Typed.{typed_line, lines_of_text, evaluation_of}
+use Rattle.wc_mirror_laws.proofs.HotlistKept.{used_small}
 use Rattle.wc_mirror_laws.specs.Changes.{IsTold}
 use Rattle.wc_mirror_laws.specs.Held.{HeldPart}
 use Rattle.wc_mirror_laws.specs.Kept.{IsStateKept}
 use Rattle.wc_mirror_laws.proofs.ChangeLemmas.{Tells, Tells-stays, Tells-then, Tells-changes, Tells-tells, Tells-asks}
+use Rattle.wc_mirror_laws.proofs.LimitLemmas.{counts_same}
 use Rattle.wc_mirror_laws.proofs.ServedLemmas.{Tells-all, Tells-serves}
 use Rattle.wc_mirror_laws.proofs.ServerLemmas.{Tells-before, Tells-quits}
 use Rattle.wc_mirror_laws.proofs.TypedLemmas.{OnAsks, parted_text, typed_text, resolved_told}
@@ -64,7 +66,7 @@ unset_within name = by (bytes_eq name lines_option) where
 
 -- the options have no part in what is held
 Tells-options : (which : HeldPart) (limit : Option ℕ) (link : ℕ) (id : List ℕ) (state : State) (options : OptionsValue) → IsStateKept link state → Tells which limit link id state (put_step (record state { options = options }))
-Tells-options which limit link id state options kept = record { following = refl; kept = record { most = kept.most; world = kept.world; told = kept.told; texts = kept.texts; first = kept.first }; plain = λ plain. plain; back = λ limited. limited; spelt = tt; right = λ follows plain limited part had. had }
+Tells-options which limit link id state options kept = record { following = refl; kept = record { most = kept.most; world = kept.world; told = kept.told; texts = kept.texts; rows = kept.rows; first = kept.first }; plain = λ plain. plain; counts = counts_same state.world; spelt = tt; right = λ follows plain stays part had. had }
 
 -- a change, before which the channel of a buffer that is closed is left
 Tells-changed : (which : HeldPart) (limit : Option ℕ) (link : ℕ) (id : List ℕ) (state : State) (change : Change) → BeginsWithout 95 id → IsStateKept link state → IsTold change.what
@@ -111,7 +113,8 @@ Tells-resolved which limit link id state (TellsRefusal text) free kept told = Te
 Tells-resolved which limit link id state (Asks change) free kept told = Tells-changed which limit link id state change free kept told
 Tells-resolved which limit link id state (SetsOption name value) free kept told = Tells-set-effects which limit link id state name value free kept
 Tells-resolved which limit link id state (UnsetsOption name) free kept told = Tells-unset-effects which limit link id state name free kept
-Tells-resolved which limit link id state SavesOptions free kept told = record { following = refl; kept = record { most = kept.most; world = kept.world; told = kept.told; texts = kept.texts; first = kept.first }; plain = λ plain. plain; back = λ limited. limited; spelt = tt; right = λ follows plain limited part had. had }
+Tells-resolved which limit link id state SavesOptions free kept told = record { following = refl; kept = record { most = kept.most; world = kept.world; told = kept.told; texts = kept.texts; rows = kept.rows; first = kept.first }; plain = λ plain. plain; counts = counts_same state.world; spelt = tt; right = λ follows plain stays part had. had }
+Tells-resolved which limit link id state (ChangesHotlist usage buffer) free kept told = record { following = refl; kept = record { most = kept.most; world = kept.world; told = kept.told; texts = kept.texts; rows = used_small usage buffer state.hotlist kept.rows; first = kept.first }; plain = λ plain. plain; counts = counts_same state.world; spelt = tt; right = λ follows plain stays part had. had }
 
 Tells-plain : (which : HeldPart) (limit : Option ℕ) (link : ℕ) (id : List ℕ) (state : State) (buffer : Handle) (line : List ℕ) → BeginsWithout 95 id → IsStateKept link state → IsUtf8 line
     → Tells which limit link id state (plain_step state buffer line)
@@ -199,7 +202,7 @@ opened_at state moment = record state { moment = moment; commands = [] }
 pub Tells-start : (which : HeldPart) (limit : Option ℕ) (link : ℕ) (id : List ℕ) (state : State) (moment : ℕ) → BeginsWithout 95 id → IsStateKept link state
     → Tells which limit link id (opened_at state moment) (start_step (opened_at state moment) state.commands)
 Tells-start which limit link id state moment free kept =
-    by (has_end one.acts) (Tells-commands which limit link id (opened_at state moment) state.commands free (record { most = kept.most; world = kept.world; told = kept.told; texts = tt; first = kept.first }) kept.texts)
+    by (has_end one.acts) (Tells-commands which limit link id (opened_at state moment) state.commands free (record { most = kept.most; world = kept.world; told = kept.told; texts = tt; rows = kept.rows; first = kept.first }) kept.texts)
   where
     one : Stepped
     one = commands_step (opened_at state moment) state.commands

@@ -1,4 +1,5 @@
 mod AskedLemmas
+mod BesideGood
 mod BufferSizes
 pub mod BytesLemmas
 mod ChangeLemmas
@@ -10,7 +11,10 @@ mod ExampleLemmas
 mod HandleLemmas
 mod HeldLemmas
 mod IdLemmas
+mod HotlistKept
 mod InputLemmas
+mod LimitLemmas
+mod LineWorlds
 mod ListLemmas
 mod MapLemmas
 mod MildCommands

@@ -1,4 +1,4 @@
--- Changes that set no flag of a line, and whose lines have a level of 8 bits.
+-- Changes whose lines have a level of 8 bits.
 use Rattle.std.proofs.Common.{◌≡◌, ℕ, Bool, true, false, cond, ◌&&◌, List, [], ◌∷◌, ◌++◌, map, Option, Some, None, refl, arith, nat_le, IsUtf8}
 use Rattle.std.specs.List.{AllByRecursion, flat_map, list_all}
 use Rattle.std.specs.Int.{w8}
@@ -23,9 +23,7 @@ use Rattle.wc_mirror_laws.specs.Changes.{IsTold}
 use Rattle.wc_mirror_laws.proofs.PrintLemmas.{level_fits}
 
 abbrev pub IsMild : What → Type 0
-IsMild (what.Rename name flips) = flips ≡ []
 IsMild (what.Print line) = FitsSigned w8 line.notify
-IsMild (what.Flips flips) = ⊥
 IsMild _ = Unit {0}
 
 -- ---- texts
@@ -69,7 +67,7 @@ mild_told (what.MergeInto into) e mild = tt
 mild_told what.Unmerge e mild = tt
 mild_told what.Hide e mild = tt
 mild_told what.Unhide e mild = tt
-mild_told (what.Rename name flips) e mild = (IsUtf8-from_is_utf8 name e, mild)
+mild_told (what.Rename name flips) e mild = IsUtf8-from_is_utf8 name e
 mild_told (what.ShortName name) e mild = IsUtf8-from_is_utf8 name e
 mild_told (what.Title title) e mild = tt
 mild_told (what.SetVar var) e mild = IsUtf8-from_is_utf8 var.name (both (is_utf8 var.name) (is_utf8 var.value) e).0
@@ -78,7 +76,7 @@ mild_told (what.Print line) e mild =
     let tags = (both (list_all is_utf8 line.tags) (is_utf8 line.prefix && is_utf8 line.message) e).0 in
     (All-from_recursion IsUtf8 line.tags (texts_utf8 line.tags tags), mild)
 mild_told what.Clear e mild = tt
-mild_told (what.Flips flips) e mild = mild
+mild_told (what.Flips flips) e mild = tt
 mild_told (what.AddGroup parent item) e mild = item_name item (both (is_utf8 parent) (is_item_text item) e).1
 mild_told (what.AddNick group item) e mild = item_name item (both (is_utf8 group) (is_item_text item) e).1
 mild_told (what.RemoveGroup name) e mild = tt

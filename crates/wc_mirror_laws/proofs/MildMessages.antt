@@ -1,10 +1,11 @@
 -- What follows of the messages of servers is mild.
-use Rattle.std.proofs.Common.{ℕ, Bool, true, false, ◌&&◌, List, [], ◌∷◌, ◌++◌, map, Option, Some, None, refl}
+use Rattle.std.proofs.Common.{ℕ, Bool, true, false, cond, ◌&&◌, List, [], ◌∷◌, ◌++◌, map, Option, Some, None, refl}
 use Rattle.std.specs.Prelude.{codes}
 use Rattle.std.specs.List.{flat_map}
 use Rattle.wc_buffers.specs.declared.row.BufferEntry.{BufferEntry}
 use Rattle.wc_buffers.specs.Calls.{EntryGroups}
 use Rattle.wc_buffers.specs.Groups.{rows}
+use Rattle.wc_text.specs.declared.names.Cause.TheVariants as cause
 use Rattle.wc_ircmsg.specs.declared.case_map.CaseMap.{CaseMap}
 use Rattle.wc_ircmsg.specs.declared.message.Message.{Message}
 use Rattle.wc_ircmsg.specs.declared.prefixes.Prefixes.{Prefixes}
@@ -15,6 +16,7 @@ use Rattle.wc_irc.specs.Channels.{Joined}
 use Rattle.wc_irc.specs.ChannelActs.{comes, come, join_line, join_on, join_in, own_join, join_acts, gone, leave_as, part_line, part_on, part_acts, kick_line, kick_on, kick_acts, quit_on, quit_as, quit_of, quit_acts}
 use Rattle.wc_irc.specs.ChannelStates.{channel_at, may_have}
 use Rattle.wc_irc.specs.Lines.{printed, full_tags}
+use Rattle.wc_irc.specs.LoginActs.{end_act, asking_act, failure_act, refusal_act, acts_of_step}
 use Rattle.wc_irc.specs.ModeActs.{same_place, moved, modes_after, change_acts, with_change, changes_acts, mode_moves, mode_line, mode_on, mode_acts}
 use Rattle.wc_irc.specs.NameActs.{placed, placed_all, seats_in, names_in, names_on, names_acts}
 use Rattle.wc_irc.specs.NewBuffers.{opened, name_or}
@@ -23,18 +25,23 @@ use Rattle.wc_irc.specs.RenameActs.{come_again, nick_line, rename_on, rename_as,
 use Rattle.wc_irc.specs.Servers.{ServerState, is_own, own_nick_from, may_try, next_nick}
 use Rattle.wc_irc.specs.ServerActs.{acts_of_kind, acts_of_server, kind_to}
 use Rattle.wc_irc.specs.SpeechActs.{Talk, Says, Does, Requests, talk_heard, talk_line, talk_tags, on_private, on_target, acts_of_talk, privmsg_acts}
-use Rattle.wc_irc.specs.TalkActs.{aimed, sent, taken_acts, has_var, differs, told_nick, tell_nick, welcome_line, raised, welcome_acts, notice_line, notice_acts}
+use Rattle.wc_irc.specs.TalkActs.{aimed, sent, other_acts, taken_acts, has_var, differs, told_nick, tell_nick, welcome_line, raised, welcome_acts, notice_line, notice_acts}
 use Rattle.wc_irc.specs.Targets.{found, full_name, server_buffer}
 use Rattle.wc_irc.specs.TitleActs.{topic_on, topic_reply_on, names_end_on, mode_reply_on}
 use Rattle.wc_irc_nicks.specs.Seats.{seat_of}
 use Rattle.wc_irc_texts.specs.declared.kind.MessageKind.{MessageKind}
 use Rattle.wc_irc_texts.specs.declared.kind.MessageKind.TheVariants as kind
+use Rattle.wc_irc_texts.specs.declared.login_step.LoginStep.{LoginStep}
+use Rattle.wc_irc_texts.specs.declared.login_step.LoginStep.TheVariants as steps
+use Rattle.wc_irc_texts.specs.declared.negotiation.Negotiation.{Negotiation}
 use Rattle.wc_irc_texts.specs.declared.seat.Seat.{Seat}
 use Rattle.wc_irc_texts.specs.Groups.{group_names}
 use Rattle.wc_irc_texts.specs.ModeBits.{highest}
 use Rattle.wc_irc_texts.specs.Modes.{ModeChange, mode_changes}
 use Rattle.wc_irc_texts.specs.Names.{is_channel, is_nick}
+use Rattle.wc_irc_texts.specs.Negotiation.{login_step, listed, granted, has_sasl}
 use Rattle.wc_irc_texts.specs.Rows.{param, params_from, last_param}
+use Rattle.wc_irc_texts.specs.Sasl.{login_pieces}
 use Rattle.wc_irc_texts.specs.Speech.{calls_nick}
 use Rattle.wc_irc_texts.specs.Texts.{plain}
 use Rattle.wc_mirror_laws.proofs.MildLemmas.{IsMildAct, AreMild, mild_said, mild_both, mild_if, mild_map, mild_each, mild_found}
@@ -115,7 +122,7 @@ mild_nick groups s m =
     let new = full_name s.name (param 0 m) in
     let renamed = renamed_buffer groups s m in
     mild_both (flat_map (rename_of groups s m) s.channels) _ (mild_each (rename_of groups s m) s.channels (λ channel. mild_rename groups s m channel))
-    (mild_both _ (own_vars groups s m) (mild_found renamed (rename_private (param 0 m) new) (λ old. (refl, (tt, (tt, tt)))))
+    (mild_both _ (own_vars groups s m) (mild_found renamed (rename_private (param 0 m) new) (λ old. (tt, (tt, (tt, tt)))))
     (mild_if (is_own s m.nick && is_nick s.features.prefixes (param 0 m)) _ [] (mild_each (own_var renamed new s (param 0 m)) (rows groups) (λ buffer. mild_own_var renamed new s (param 0 m) buffer)) tt))
 
 -- ---- modes and lists of names
@@ -158,7 +165,7 @@ mild_names groups s m = mild_found (found groups s (param 2 m)) (names_on s m) (
 
 -- ---- what is said
 
-mild_talk_line : (s : ServerState) (target nick : List ℕ) (does : Bool) (text : List ℕ) (tags : List (List ℕ)) (buffer : List ℕ) → IsMildAct (talk_line s target nick does text tags buffer)
+pub mild_talk_line : (s : ServerState) (target nick : List ℕ) (does : Bool) (text : List ℕ) (tags : List (List ℕ)) (buffer : List ℕ) → IsMildAct (talk_line s target nick does text tags buffer)
 mild_talk_line s target nick true text tags buffer = mild_said buffer tags _ _ (calls_nick s.nick (plain text))
 mild_talk_line s target nick false text tags buffer = mild_said buffer tags _ _ (calls_nick s.nick (plain text))
 
@@ -203,6 +210,35 @@ mild_welcome groups s m =
 mild_taken : (s : ServerState) → AreMild (taken_acts s)
 mild_taken s = mild_if (may_try s) (sent (codes "NICK") (next_nick s) ∷ []) _ (tt, tt) (tt, tt)
 
+-- ---- a login
+
+mild_asking : (names : List (List ℕ)) → AreMild (asking_act names ∷ [])
+mild_asking [] = (tt, tt)
+mild_asking (name ∷ names) = (tt, tt)
+
+mild_one_of : (t : Bool) (a b : Act) → IsMildAct a → IsMildAct b → AreMild (cond t a b ∷ [])
+mild_one_of true a b one other = (one, tt)
+mild_one_of false a b one other = (other, tt)
+
+mild_failure : (n : Negotiation) → AreMild (failure_act n ∷ [])
+mild_failure n = mild_one_of n.is_strict (act.Leave cause.NickTaken) end_act tt tt
+
+mild_refusal : (n : Negotiation) → AreMild (refusal_act n ∷ [])
+mild_refusal n = mild_one_of (has_sasl n.offered) (failure_act n) end_act (mild_failure n).0 tt
+
+mild_step : (s : ServerState) (m : Message) (step : LoginStep) → AreMild (acts_of_step s m step)
+unfolding acts_of_step
+mild_step s m steps.Foreign = mild_line (server_buffer s.name) _ _ _
+mild_step s m steps.Nothing = tt
+mild_step s m steps.Lists = tt
+mild_step s m steps.EndsList = mild_asking (listed s.negotiation m)
+mild_step s m steps.Grants = mild_one_of (has_sasl (granted s.negotiation m)) (sent (codes "AUTHENTICATE") (codes "PLAIN")) end_act tt tt
+mild_step s m steps.Refuses = mild_refusal s.negotiation
+mild_step s m steps.TakesAway = tt
+mild_step s m steps.AsksProof = mild_map (sent (codes "AUTHENTICATE")) (login_pieces s.negotiation.user s.negotiation.password) (λ piece. tt)
+mild_step s m steps.Admits = mild_both (other_acts s m) (end_act ∷ []) (mild_line (server_buffer s.name) _ _ _) (tt, tt)
+mild_step s m steps.Rejects = mild_both (other_acts s m) (failure_act s.negotiation ∷ []) (mild_line (server_buffer s.name) _ _ _) (mild_failure s.negotiation)
+
 -- ---- each kind
 
 mild_kind : (groups : EntryGroups) (s : ServerState) (m : Message) (k : MessageKind) → AreMild (acts_of_kind groups s m k)
@@ -225,7 +261,7 @@ mild_kind groups s m kind.Privmsg = mild_privmsg groups s m
 mild_kind groups s m kind.Notice = mild_notice groups s m
 mild_kind groups s m kind.Ping = (tt, tt)
 mild_kind groups s m kind.Error = mild_line (server_buffer s.name) _ _ _
-mild_kind groups s m kind.Other = mild_line (server_buffer s.name) _ _ _
+mild_kind groups s m kind.Other = mild_step s m (login_step s.negotiation m)
 
 pub mild_message : (groups : EntryGroups) (s : ServerState) (m : Message) → AreMild (acts_of_server groups s m)
 mild_message groups s m = mild_kind groups s m (kind_to s m)

@@ -1,13 +1,15 @@
 -- What is noticed of a change is within its limits.
-use Rattle.std.proofs.Common.{◌≡◌, ℕ, ◌+◌, ◌-◌, ◌<◌, ◌≤◌, ◌^◌, Bool, true, false, cond, eqb, eqb-true, find, List, [], ◌∷◌, length, Option, Some, None, option_map, refl, sym, subst, arith, IsUtf8}
+use Rattle.std.proofs.Common.{◌≡◌, ℕ, ◌+◌, ◌-◌, ◌<◌, ◌≤◌, ◌^◌, Bool, true, false, cond, eqb, eqb-true, find, List, [], ◌∷◌, ◌++◌, map, filter, length, Option, Some, None, option_map, refl, sym, subst, arith, IsUtf8}
 use Rattle.std.specs.List.{AllByRecursion, flat_map}
 use Rattle.std.proofs.lemmas.Str.{IsUtf8-nil}
 use Rattle.wc_text.specs.declared.names.Handle.{Handle}
+use Rattle.wc_lines.specs.declared.line.Line.{Line}
 use Rattle.wc_buffers.specs.declared.row.BufferEntry.{BufferEntry}
 use Rattle.wc_buffers.specs.Calls.{handle_of, is_there, entry_of}
 use Rattle.wc_buffers.specs.Groups.{rows, has}
 use Rattle.wc_buffers.proofs.RefusalLemmas.{there_good, close_good, move_good, merge_good, unmerge_good, rename_good, short_name_good, set_var_good, remove_var_good}
 use Rattle.wc_nicklist.specs.Calls.{remove_refusal, change_refusal}
+use Rattle.wc_world.specs.Kept.{AreContentsApart}
 use Rattle.wc_world.proofs.GroupRows.{some_row}
 use Rattle.wc_world.proofs.NicksDone.{may_add, may_edit}
 use Rattle.wc_model.specs.declared.change.What.{What}
@@ -19,10 +21,10 @@ use Rattle.wc_model.specs.Order.{before_in, first_of, after_in, order}
 use Rattle.wc_model.specs.Apply.{refusal_of, after_of}
 use Rattle.wc_model.specs.declared.notice.Trim.{Trim}
 use Rattle.wc_model.specs.Notices.{notice_with, notice_at, notice_of, name_in, trim_of, trim_to}
-use Rattle.wc_model.specs.Parts.{trim_part, parts_of}
-use Rattle.wc_view.specs.Views.{IsMirrorable}
+use Rattle.wc_model.specs.Parts.{has_flips, flag_part, flag_parts, trim_part, parts_of}
+use Rattle.wc_view.specs.Views.{ContentsDiffer, IsMirrorable}
 use Rattle.wc_mirror_laws.specs.Worlds.{IsBufferKept, IsWorldKept}
-use Rattle.wc_mirror_laws.proofs.ListLemmas.{all_map, all_flat}
+use Rattle.wc_mirror_laws.proofs.ListLemmas.{all_append, all_filter, all_map, all_flat}
 use Rattle.wc_mirror_laws.proofs.RowLemmas.{row_has}
 use Rattle.wc_mirror_laws.specs.Changes.{IsTold}
 use Rattle.wc_mirror_laws.proofs.WorldLemmas.{once, accepted, both_accepted, after_kept}
@@ -107,8 +109,33 @@ limit_trims limit other w most is =
 pub trim_telling : (trim : Trim) → IsTrimTold trim → IsTelling (trim_part trim)
 trim_telling trim is = record { buffer = is.buffer; name = IsUtf8-nil; short = omega arith; prev = omega arith; next = omega arith; trims = (is, tt) }
 
-pub parts_telling : (v : World) (n : Notice) → IsTelling n → AllByRecursion IsTelling (parts_of v n)
-parts_telling v n tells = (tells, all_map IsTrimTold IsTelling trim_part n.trims trim_telling tells.trims)
+-- ---- the lines whose flags differ
+
+pub flag_telling : (flips : List Handle) (buffer : ℕ) → buffer < 2 ^ 64 → IsTelling (flag_part flips buffer)
+flag_telling flips buffer small = record { buffer = small; name = IsUtf8-nil; short = omega arith; prev = omega arith; next = omega arith; trims = tt }
+
+-- what holds of the notice of each buffer holds of all that are made
+pub flags_all : (Q : Notice → Type 0) (limit : ℕ) (v : World) (flips : List Handle) → IsWorldKept limit v → ((flips : List Handle) (buffer : ℕ) → buffer < 2 ^ 64 → Q (flag_part flips buffer))
+    → AllByRecursion Q (flag_parts v flips)
+flags_all Q limit v [] is each = tt
+flags_all Q limit v (flip ∷ flips) is each =
+    all_map (λ n. n < 2 ^ 64) Q (flag_part (flip ∷ flips)) (filter (has_flips v (flip ∷ flips)) (order v.groups)) (each (flip ∷ flips))
+    (all_filter (λ n. n < 2 ^ 64) (has_flips v (flip ∷ flips)) (order v.groups) (order_small limit v is))
+
+-- ---- all parts
+
+-- the parts beside the event of a change, of which a mirror with a limit of its own hears no lines that went
+abbrev pub others_heard : Option ℕ → World → Notice → List Notice
+others_heard None v n = flag_parts v n.flips ++ map trim_part n.trims
+others_heard (Some own) v n = flag_parts v n.flips
+
+pub others_all : (Q : Notice → Type 0) (own : Option ℕ) (limit : ℕ) (v : World) (n : Notice) → IsWorldKept limit v → IsTelling n → ((flips : List Handle) (buffer : ℕ) → buffer < 2 ^ 64 → Q (flag_part flips buffer))
+    → ((trim : Trim) → IsTrimTold trim → Q (trim_part trim)) → AllByRecursion Q (others_heard own v n)
+others_all Q None limit v n is tells flags trims = all_append Q (flag_parts v n.flips) (map trim_part n.trims) (flags_all Q limit v n.flips is flags) (all_map IsTrimTold Q trim_part n.trims trims tells.trims)
+others_all Q (Some own) limit v n is tells flags trims = flags_all Q limit v n.flips is flags
+
+pub parts_telling : (limit : ℕ) (v : World) (n : Notice) → IsWorldKept limit v → IsTelling n → AllByRecursion IsTelling (parts_of v n)
+parts_telling limit v n is tells = (tells, others_all IsTelling None limit v n is tells flag_telling trim_telling)
 
 pub found_key : (h : ℕ) (xs : List BufferEntry) (e : BufferEntry) → find (λ x. eqb (handle_of x) h) xs ≡ Some e → handle_of e ≡ h
 found_key h [] e at = absurd (let f = at in cc)
@@ -124,9 +151,10 @@ there_small limit w h is there =
     let same = found_key h.0 (rows w.groups) r.0 r.1 in
     (let b = kept.below in let ended = is.ended in omega arith)
 
--- it is of one buffer, and none is added
+-- it is of one buffer that is named, and none is added
 abbrev pub IsOld : What → Type 0
 IsOld (Add spec) = ⊥
+IsOld (Flips flips) = ⊥
 IsOld (Limit limit) = ⊥
 IsOld _ = Unit {0}
 
@@ -147,7 +175,7 @@ target_there w h (SetVar var) told good old = (set_var_good h var.name w.groups 
 target_there w h (RemoveVar name) told good old = (remove_var_good h name w.groups (accepted _ good)).0
 target_there w h (Print line) told good old = there_good h w.groups (accepted _ (both_accepted _ _ good).0)
 target_there w h Clear told good old = there_good h w.groups (accepted _ good)
-target_there w h (Flips flips) told good old = absurd told
+target_there w h (Flips flips) told good old = absurd old
 target_there w h (AddGroup parent item) told good old = there_good h w.groups (may_add w h true parent item good).there
 target_there w h (AddNick group item) told good old = there_good h w.groups (may_add w h false group item good).there
 target_there w h (RemoveGroup name) told good old = there_good h w.groups (may_edit w h (remove_refusal true name (rows_at w h.0)) good).there
@@ -175,7 +203,7 @@ telling limit w h (Print line) most is told good =
     let small = there_small limit w h is (target_there w h (Print line) told good tt) in
     telling_with limit (after_of w h (Print line)) _ h _ _ _ (after_kept limit w h (Print line) is told good) small (one_trim h (length (lines_at w h.0) + 1 - w.limit) small (let held = is.within h.0 in omega arith))
 telling limit w h Clear most is told good = telling_at limit (after_of w h Clear) _ h _ _ (after_kept limit w h Clear is told good) (there_small limit w h is (target_there w h Clear told good tt))
-telling limit w h (Flips flips) most is told good = absurd told
+telling limit w h (Flips flips) most is told good = telling_at limit (after_of w h (Flips flips)) _ (record { 0 = 0 }) _ _ (after_kept limit w h (Flips flips) is told good) (omega arith)
 telling limit w h (AddGroup parent item) most is told good = telling_at limit (after_of w h (AddGroup parent item)) _ h _ _ (after_kept limit w h (AddGroup parent item) is told good) (there_small limit w h is (target_there w h (AddGroup parent item) told good tt))
 telling limit w h (AddNick group item) most is told good = telling_at limit (after_of w h (AddNick group item)) _ h _ _ (after_kept limit w h (AddNick group item) is told good) (there_small limit w h is (target_there w h (AddNick group item) told good tt))
 telling limit w h (RemoveGroup name) most is told good = telling_at limit (after_of w h (RemoveGroup name)) _ h _ _ (after_kept limit w h (RemoveGroup name) is told good) (there_small limit w h is (target_there w h (RemoveGroup name) told good tt))
@@ -192,6 +220,11 @@ drawn limit w is h there =
     let r = some_row handle_of h w.groups there in
     let kept = row_has (IsBufferKept w.next) handle_of h (rows w.groups) r.0 r.1 is.each in
     subst (λ n. n < w.next) (found_key h (rows w.groups) r.0 r.1) kept.below
+
+-- the contents of a buffer's lines differ
+pub contents_differ : (next : ℕ) (lines : List Line) → AreContentsApart next lines → ContentsDiffer lines
+contents_differ next [] apart = tt
+contents_differ next (line ∷ lines) apart = (apart.1, contents_differ next lines apart.2)
 
 pub stands : (limit : ℕ) (w : World) → limit ≤ 4096 → IsWorldKept limit w → IsMirrorable w
 stands limit w most is = record {

@@ -14,7 +14,7 @@ use Rattle.wc_objects.specs.declared.object.Object.TheViews.{out-roll-Object, ou
 use Rattle.wc_objects.specs.declared.object.WireMessage.{WireMessage}
 use Rattle.wc_objects.specs.Spelling.{be32, text_bytes, hda_bytes, object_bytes, message_bytes}
 use Rattle.wc_objects.proofs.Rooms.{length-be32, length-message_bytes}
-use Rattle.wc_options.specs.Options.{OptionsValue}
+use Rattle.wc_session.specs.RequestContext.{Context}
 use Rattle.wc_relaycmd.specs.declared.request.Command.{Command}
 use Rattle.wc_relaycmd.specs.declared.request.Command.TheVariants as ask
 use Rattle.wc_session.specs.declared.client.Client.{Client}
@@ -115,26 +115,26 @@ input_none groups client buffer text = by (buffer_named groups buffer) where
   by None = refl
   by (Some h) = refl
 
-served_one : (world : World) (options : OptionsValue) (client : Client) (id : List ℕ) (command : Command) → length id ≤ 65536 → IsOneIf (has_reply command) (id_of_reply id command) (served world options client id command).messages
+served_one : (world : World) (context : Context) (client : Client) (id : List ℕ) (command : Command) → length id ≤ 65536 → IsOneIf (has_reply command) (id_of_reply id command) (served world context client id command).messages
 unfolding served
-served_one world options client id (ask.Handshake pairs) known = handshake_one (masks_of options) client id pairs known
-served_one world options client id (ask.Init pairs) known = init_none (masks_of options) (password_of options) client pairs
-served_one world options client id (ask.Hdata path keys) known = answers_one client id _ known
-served_one world options client id (ask.Info name) known = answers_one client id _ known
-served_one world options client id (ask.Infolist name argument) known = answers_one client id _ known
-served_one world options client id (ask.Nicklist buffer) known = answers_one client id _ known
-served_one world options client id (ask.Input buffer text) known = input_none world.groups client buffer text
-served_one world options client id (ask.Completion buffer position text) known = answers_one client id _ known
-served_one world options client id (ask.Sync buffers asked) known = refl
-served_one world options client id (ask.Desync buffers asked) known = refl
-served_one world options client id ask.Test known = answers_one client id _ known
-served_one world options client id (ask.Ping text) known = answers_one client (codes "_pong") _ (omega arith)
-served_one world options client id ask.Quit known = refl
+served_one world context client id (ask.Handshake pairs) known = handshake_one (masks_of context.options) client id pairs known
+served_one world context client id (ask.Init pairs) known = init_none (masks_of context.options) (password_of context.options) client pairs
+served_one world context client id (ask.Hdata path keys) known = answers_one client id _ known
+served_one world context client id (ask.Info name) known = answers_one client id _ known
+served_one world context client id (ask.Infolist name argument) known = answers_one client id _ known
+served_one world context client id (ask.Nicklist buffer) known = answers_one client id _ known
+served_one world context client id (ask.Input buffer text) known = input_none world.groups client buffer text
+served_one world context client id (ask.Completion buffer position text) known = answers_one client id _ known
+served_one world context client id (ask.Sync buffers asked) known = refl
+served_one world context client id (ask.Desync buffers asked) known = refl
+served_one world context client id ask.Test known = answers_one client id _ known
+served_one world context client id (ask.Ping text) known = answers_one client (codes "_pong") _ (omega arith)
+served_one world context client id ask.Quit known = refl
 
 pub gets_one_reply : GetsOneReply
 unfolding reply_of
-gets_one_reply world options client request known = by (is_served client request) (served_one world options client request.id request.command known) where
-  by : (b : Bool) → IsOneIf (has_reply request.command) (id_of_reply request.id request.command) (served world options client request.id request.command).messages
-      → IsOneIf (b && has_reply request.command) (id_of_reply request.id request.command) (cond b (served world options client request.id request.command) (leaves client cause.LoginFailed)).messages
+gets_one_reply world context client request known = by (is_served client request) (served_one world context client request.id request.command known) where
+  by : (b : Bool) → IsOneIf (has_reply request.command) (id_of_reply request.id request.command) (served world context client request.id request.command).messages
+      → IsOneIf (b && has_reply request.command) (id_of_reply request.id request.command) (cond b (served world context client request.id request.command) (leaves client cause.LoginFailed)).messages
   by true one = one
   by false one = refl

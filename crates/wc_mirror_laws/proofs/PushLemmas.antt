@@ -55,6 +55,7 @@ use Rattle.wc_mirror_laws.proofs.ClientLemmas.{told-first, pushed_nothing, pushe
 use Rattle.wc_mirror_laws.proofs.DiffItems.{of_diff, of_full}
 use Rattle.wc_mirror_laws.proofs.HeldLemmas.{fold_all-append, nicks_told}
 use Rattle.wc_mirror_laws.proofs.IdLemmas.{event_apart, id_free}
+use Rattle.wc_mirror_laws.proofs.LimitLemmas.{counts_same}
 use Rattle.wc_mirror_laws.proofs.ListLemmas.{all_map}
 use Rattle.wc_mirror_laws.proofs.MapLemmas.{get_put}
 use Rattle.wc_mirror_laws.proofs.NickDumps.{IsItemKept, root_kept, items_kept, nick_small, diff_small, nick_dump_size}
@@ -305,11 +306,11 @@ push_right which limit link id state part kept free follows had = by (client_on 
 pub Tells-pushes : (which : HeldPart) (limit : Option ℕ) (link : ℕ) (id : List ℕ) (state : State) → BeginsWithout 95 id → IsStateKept link state → Tells which limit link id state (push_step state)
 Tells-pushes which limit link id state free kept = record {
   following = refl;
-  kept = record { most = kept.most; world = kept.world; told = kept.world.nicks; texts = kept.texts; first = kept.first };
+  kept = record { most = kept.most; world = kept.world; told = kept.world.nicks; texts = kept.texts; rows = kept.rows; first = kept.first };
   plain = λ plain. plain;
-  back = λ limited. limited;
+  counts = counts_same state.world;
   spelt = pushes_spelt link state (rows state.world.groups) kept kept.world.each;
-  right = λ follows plain limited part had. push_right which limit link id state part kept free follows had;
+  right = λ follows plain stays part had. push_right which limit link id state part kept free follows had;
 }
 
 pub push_keeps : PushKeeps

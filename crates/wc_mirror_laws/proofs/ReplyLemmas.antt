@@ -19,15 +19,17 @@ use Rattle.wc_session.specs.Reply.{dump_asked, is_line_dump, is_open, leaves, se
 use Rattle.wc_session.specs.Sending.{message, fits, reply}
 use Rattle.wc_session.proofs.OneReplyLaws.{one_reply}
 use Rattle.wc_session.proofs.SendingLemmas.{fits_within}
-use Rattle.wc_options.specs.Options.{OptionsValue}
+use Rattle.wc_session.specs.RequestContext.{Context}
 use Rattle.wc_session.proofs.DumpReplies.{IsWalkable, dump_told}
 use Rattle.wc_view.specs.BufferFold.{kind_named}
 use Rattle.wc_view.specs.NickFold.{NickPart}
+use Rattle.wc_view.specs.Views.{Suits}
+use Rattle.wc_core.specs.Contexts.{context_of}
 use Rattle.wc_core.specs.State.{State}
 use Rattle.wc_core.specs.Step.{sends}
 use Rattle.wc_mirror_laws.specs.Held.{HeldPart, Lines, Buffers, Nicks, HeldOf, asks_dump, fold_unrefused, fold_one, Has}
 use Rattle.wc_mirror_laws.specs.Roots.{RootPart, fold_roots}
-use Rattle.wc_mirror_laws.specs.Settled.{TakesDump, IsFair, IsLimited}
+use Rattle.wc_mirror_laws.specs.Settled.{TakesDump, IsFair}
 use Rattle.wc_mirror_laws.specs.Kept.{IsStateKept}
 use Rattle.wc_mirror_laws.specs.Mirrors.{fold_all, mirror_after}
 use Rattle.wc_mirror_laws.specs.Worlds.{IsWorldKept}
@@ -108,9 +110,9 @@ free_other id other free apart = record {
 }
 
 other_reply : (which : HeldPart) (limit : Option ℕ) (id : List ℕ) (state : State) (client : Client) (line : List ℕ) (request : Request) (part : HeldOf which) → BeginsWithout 95 id
-    → request_of client.escaped line ≡ Some request → bytes_eq request.id id ≡ false → fold_all which limit id part (reply_of state.world state.options client request).messages ≡ part
+    → request_of client.escaped line ≡ Some request → bytes_eq request.id id ≡ false → fold_all which limit id part (reply_of state.world (context_of state) client request).messages ≡ part
 other_reply which limit id state client line request part free read other =
-    unmoved which limit id (id_of_reply request.id request.command) part (reply_of state.world state.options client request).messages (one_reply state.world state.options client request)
+    unmoved which limit id (id_of_reply request.id request.command) part (reply_of state.world (context_of state) client request).messages (one_reply state.world (context_of state) client request)
     (reply_other id request.id request.command (free_other id request.id (request_free line client.escaped request read) other) (event_apart (codes "pong") id free))
 
 -- ---- the dump
@@ -140,10 +142,10 @@ unfolding reply
 reply_one id objects e = rw e refl
 
 -- the dump is the one message that its request gets
-reply_dump : (which : HeldPart) (world : World) (options : OptionsValue) (client : Client) (request : Request) → IsWalkable world → client.logged_in ≡ true → asks_dump which request.command ≡ true
-    → fits (message request.id (dump_of which world)) ≡ true → (reply_of world options client request).messages ≡ message request.id (dump_of which world) ∷ []
-reply_dump which world options client request is logged e fit =
-    dump_told world options client request (dump_of which world) is logged (dump_is_asked which world request.command e) ∙ reply_one request.id (dump_of which world) fit
+reply_dump : (which : HeldPart) (world : World) (context : Context) (client : Client) (request : Request) → IsWalkable world → client.logged_in ≡ true → asks_dump which request.command ≡ true
+    → fits (message request.id (dump_of which world)) ≡ true → (reply_of world context client request).messages ≡ message request.id (dump_of which world) ∷ []
+reply_dump which world context client request is logged e fit =
+    dump_told world context client request (dump_of which world) is logged (dump_is_asked which world request.command e) ∙ reply_one request.id (dump_of which world) fit
 
 -- before login it gets none
 closed_dump : (which : HeldPart) (command : Command) → asks_dump which command ≡ true → is_open command ≡ false
@@ -154,38 +156,38 @@ closed_dump Buffers _ e = absurd (false≢true e)
 closed_dump Nicks (ask.Nicklist buffer) e = refl
 closed_dump Nicks _ e = absurd (false≢true e)
 
-early_dump : (which : HeldPart) (world : World) (options : OptionsValue) (client : Client) (request : Request) → client.logged_in ≡ false → asks_dump which request.command ≡ true
-    → (reply_of world options client request).messages ≡ []
+early_dump : (which : HeldPart) (world : World) (context : Context) (client : Client) (request : Request) → client.logged_in ≡ false → asks_dump which request.command ≡ true
+    → (reply_of world context client request).messages ≡ []
 unfolding reply_of
-early_dump which world options client request early e =
-    ap (λ b. (cond (b || is_open request.command) (served world options client request.id request.command) (leaves client cause.LoginFailed)).messages) early
-    ∙ ap (λ b. (cond b (served world options client request.id request.command) (leaves client cause.LoginFailed)).messages) (closed_dump which request.command e)
+early_dump which world context client request early e =
+    ap (λ b. (cond (b || is_open request.command) (served world context client request.id request.command) (leaves client cause.LoginFailed)).messages) early
+    ∙ ap (λ b. (cond b (served world context client request.id request.command) (leaves client cause.LoginFailed)).messages) (closed_dump which request.command e)
 
 -- the dump shows its part, whatever the client had
 pub dump_right : (which : HeldPart) (limit : Option ℕ) (link : ℕ) (id : List ℕ) (state : State) (client : Client) (line : List ℕ) (request : Request) (part : HeldOf which) → IsStateKept link state → length line ≤ 65536
-    → request_of client.escaped line ≡ Some request → TakesDump which id (record { client = client; request = request }) → IsAllTold which state → IsLimited limit state.world
-    → Has which (fold_all which limit id part (reply_of state.world state.options client request).messages) state
-dump_right which limit link id state client line request part kept within read takes all limited =
+    → request_of client.escaped line ≡ Some request → TakesDump which id (record { client = client; request = request }) → IsAllTold which state → Suits limit state.world
+    → Has which (fold_all which limit id part (reply_of state.world (context_of state) client request).messages) state
+dump_right which limit link id state client line request part kept within read takes all suits =
     let size = request_size line client.escaped request read in
     let fit = fits_within (message request.id (dump_of which state.world)) (dump_short which state.world.limit request.id state.world (omega arith) kept.most kept.world) in
-    let told = reply_dump which state.world state.options client request (walkable state.world.limit state.world kept.most kept.world) takes.logged_in takes.dump fit ∙ ap (λ id. message id (dump_of which state.world) ∷ []) takes.under in
-    subst (λ part. Has which part state) (sym (ap (fold_all which limit id part) told)) (dump_shown which limit id part state kept.most kept.world limited all)
+    let told = reply_dump which state.world (context_of state) client request (walkable state.world.limit state.world kept.most kept.world) takes.logged_in takes.dump fit ∙ ap (λ id. message id (dump_of which state.world) ∷ []) takes.under in
+    subst (λ part. Has which part state) (sym (ap (fold_all which limit id part) told)) (dump_shown which limit id part state kept.most kept.world suits all)
 
 -- ---- any reply
 
 -- a reply leaves a client that has a part with it
 pub reply_right : (which : HeldPart) (limit : Option ℕ) (link : ℕ) (id : List ℕ) (state : State) (client : Client) (line : List ℕ) (request : Request) (part : HeldOf which) → IsStateKept link state → BeginsWithout 95 id → length line ≤ 65536
-    → request_of client.escaped line ≡ Some request → IsFair which id (record { client = client; request = request }) → (client.logged_in ≡ true → asks_dump which request.command ≡ true → IsAllTold which state) → IsLimited limit state.world → Has which part state
-    → Has which (fold_all which limit id part (reply_of state.world state.options client request).messages) state
-reply_right which limit link id state client line request part kept free within read fair all limited had = by (bytes_eq request.id id) client.logged_in refl refl where
+    → request_of client.escaped line ≡ Some request → IsFair which id (record { client = client; request = request }) → (client.logged_in ≡ true → asks_dump which request.command ≡ true → IsAllTold which state) → Suits limit state.world → Has which part state
+    → Has which (fold_all which limit id part (reply_of state.world (context_of state) client request).messages) state
+reply_right which limit link id state client line request part kept free within read fair all suits had = by (bytes_eq request.id id) client.logged_in refl refl where
   messages : List WireMessage
-  messages = (reply_of state.world state.options client request).messages
+  messages = (reply_of state.world (context_of state) client request).messages
 
   by : (same logged : Bool) → bytes_eq request.id id ≡ same → client.logged_in ≡ logged → Has which (fold_all which limit id part messages) state
   by true true e logged =
-      dump_right which limit link id state client line request part kept within read (record { logged_in = logged; dump = fair e; under = (bytes_eq-Decides request.id id).0 e }) (all logged (fair e)) limited
+      dump_right which limit link id state client line request part kept within read (record { logged_in = logged; dump = fair e; under = (bytes_eq-Decides request.id id).0 e }) (all logged (fair e)) suits
   by true false e early =
-      subst (λ part. Has which part state) (sym (ap (fold_all which limit id part) (early_dump which state.world state.options client request early (fair e)))) had
+      subst (λ part. Has which part state) (sym (ap (fold_all which limit id part) (early_dump which state.world (context_of state) client request early (fair e)))) had
   by false logged e was = subst (λ part. Has which part state) (sym (other_reply which limit id state client line request part free read e)) had
 
 -- what is sent to the client of one link

@@ -17,16 +17,16 @@ use Rattle.wc_model.specs.declared.change.What.{What}
 use Rattle.wc_model.specs.declared.change.What.TheVariants.{Add, Close, MoveTo, MergeInto, Unmerge, Hide, Unhide, Rename, ShortName, Title, SetVar, RemoveVar, Print, Clear, Flips, AddGroup, AddNick, RemoveGroup, RemoveNick, ChangeGroup, ChangeNick, Limit}
 use Rattle.wc_model.specs.declared.notice.EventKind.{EventKind}
 use Rattle.wc_model.specs.declared.notice.EventKind.TheVariants as event
-use Rattle.wc_model.specs.World.{World, rows_at, root_at}
+use Rattle.wc_model.specs.World.{World, lines_at, rows_at, root_at}
 use Rattle.wc_model.specs.Apply.{after_of}
 use Rattle.wc_model.specs.declared.notice.Trim.{Trim}
 use Rattle.wc_model.specs.Notices.{notice_of, var_kind}
-use Rattle.wc_model.specs.Parts.{trim_part}
+use Rattle.wc_model.specs.Parts.{flag_part, trim_part}
 use Rattle.wc_model.specs.Touches.{told_after}
 use Rattle.wc_world.proofs.GroupRows.{in_rows}
 use Rattle.wc_objects.specs.declared.object.Object.{Object}
 use Rattle.wc_objects.specs.declared.object.WireMessage.{WireMessage}
-use Rattle.wc_events.specs.BufferObjects.{event_of, objects_of, trim_objects}
+use Rattle.wc_events.specs.BufferObjects.{event_of, objects_of, flagged_objects, trim_objects}
 use Rattle.wc_events.specs.NickObjects.{nick_path, nick_keys, nick_item, diff_item, nick_objects, diff_objects, push_message, root_and_rows, nick_dump}
 use Rattle.wc_session.specs.Sending.{message}
 use Rattle.wc_view.specs.Each.{onto, each}
@@ -142,6 +142,11 @@ change_roots id roots told w h a free has = subst (λ r. HasRoots r told) (sym (
 pub trim_roots : (id : List ℕ) (roots : RootPart) (v : World) (trim : Trim) → IsFree id → fold_told_roots id roots (event_of v (trim_part trim)) ≡ roots
 unfolding objects_of
 trim_roots id roots v trim free = rootless id roots event.LinesTrimmed (Some (trim_objects trim)) refl free
+
+-- nor do lines whose flags differ
+pub flag_roots : (id : List ℕ) (roots : RootPart) (v : World) (flips : List Handle) (buffer : ℕ) → IsFree id → fold_told_roots id roots (event_of v (flag_part flips buffer)) ≡ roots
+unfolding objects_of
+flag_roots id roots v flips buffer free = rootless id roots event.LineDataChanged (flagged_objects (record { 0 = buffer }) flips (lines_at v buffer)) refl free
 
 -- ---- pushes
 

@@ -8,13 +8,14 @@ use Rattle.wc_core.specs.Events.{Event}
 use Rattle.wc_core.specs.State.{State}
 use Rattle.wc_core.specs.Step.{step, run}
 use Rattle.wc_mirror_laws.specs.Held.{HeldPart, HeldOf, nothing, Has}
-use Rattle.wc_mirror_laws.specs.Settled.{AskedFor, asked_in, asked_on, client_on, follows_all, is_following, StaysPlain, IsLimited, TakesDump, IsFair}
+use Rattle.wc_mirror_laws.specs.Settled.{AskedFor, asked_in, asked_on, client_on, follows_all, is_following, StaysPlain, IsLimited, LimitStays, TakesDump, IsFair}
 use Rattle.wc_mirror_laws.specs.Kept.{IsStateKept}
 use Rattle.wc_mirror_laws.specs.Mirrors.{mirror_after, beginning, IsShortLine, Mirrors, RunKeeps}
 use Rattle.wc_mirror_laws.proofs.ChangeLemmas.{mirror-append}
+use Rattle.wc_mirror_laws.proofs.LimitLemmas.{limited_before, limited_stays}
 use Rattle.wc_mirror_laws.proofs.ListLemmas.{all_front, all_back}
 use Rattle.wc_mirror_laws.proofs.WorldLemmas.{first_lists, first_kept}
-use Rattle.wc_mirror_laws.proofs.StepLemmas.{step_keeps, step_back, followed}
+use Rattle.wc_mirror_laws.proofs.StepLemmas.{step_keeps, step_counts, followed}
 use Rattle.wc_mirror_laws.proofs.EventLemmas.{asked_one, step_mirrors, dump_mirrors}
 use Rattle.wc_eval.specs.Verdicts.{Oracle}
 
@@ -36,7 +37,14 @@ has-then which limit link id part state event events has =
 -- a limit that was never changed in the end was not changed before
 limited_on : (limit : Option ℕ) (link : ℕ) (state : State) (events : List Event) → IsStateKept link state → IsLimited limit (run state events).state.world → IsLimited limit state.world
 limited_on limit link state [] kept limited = limited
-limited_on limit link state (event ∷ events) kept limited = step_back limit link state event kept (limited_on limit link (step state event).state events (step_keeps link state event kept) limited)
+limited_on limit link state (event ∷ events) kept limited =
+    limited_before limit state.world (step state event).state.world (step_counts link state event kept) (limited_on limit link (step state event).state events (step_keeps link state event kept) limited)
+
+-- so it stays in each step
+stays_on : (limit : Option ℕ) (link : ℕ) (state : State) (event : Event) (events : List Event) → IsStateKept link state → IsLimited limit (run (step state event).state events).state.world
+    → LimitStays limit state.world (step state event).state.world
+stays_on limit link state event events kept limited =
+    limited_stays limit state.world (step state event).state.world (step_counts link state event kept) (limited_on limit link (step state event).state events (step_keeps link state event kept) limited)
 
 -- ---- after the dump
 
@@ -66,7 +74,7 @@ mirrored which limit link id state (event ∷ events) part kept free within fair
     let after = stood limit link next events then (all_back (Follows limit) here rest follows) still in
     let now = all_front (IsFair which id) here rest fair in
     let part' = mirror_after which limit link id part (step state event).acts in
-    let has : Has which part' next = step_mirrors which limit link id state event part kept free within.0 now plain.0 after (limited_on limit link next events then limited) had in
+    let has : Has which part' next = step_mirrors which limit link id state event part kept free within.0 now plain.0 after (stays_on limit link state event events kept limited) had in
     has-then which limit link id part state event events
     (mirrored which limit link id next events part' then free within.1 (all_back (IsFair which id) here rest fair) (all_back (Follows limit) here rest follows) plain.1 still limited has)
 
@@ -94,7 +102,7 @@ has-dump which limit link id part state event events dump following kept within 
     let free = subst (BeginsWithout 95) taken.takes.under (asked_one link state event dump none here).free in
     let part' = mirror_after which limit link id part (step state event).acts in
     let after = stood limit link next events then follows still in
-    let shown : Has which part' next = dump_mirrors which limit link id state event part dump kept within.0 here taken.takes plain.0 after (limited_on limit link next events then limited) in
+    let shown : Has which part' next = dump_mirrors which limit link id state event part dump kept within.0 here taken.takes plain.0 after (stays_on limit link state event events kept limited) in
     has-then which limit link id part state event events (mirrored which limit link id next events part' then free within.1 fair follows plain.1 still limited shown)
 
 settles : (which : HeldPart) (limit : Option ℕ) (link : ℕ) (id : List ℕ) (state : State) (events : List Event) (part : HeldOf which) (before following : List AskedFor) (dump : AskedFor) → IsStateKept link state
@@ -127,7 +135,7 @@ settles which limit link id state (event ∷ events) part before following dump 
 -- ---- from the start
 
 pub start_kept : (lines link : ℕ) (oracle : Oracle) (options : OptionsValue) (commands : List (List ℕ)) (connects : Bool) → lines ≤ 4096 → AllByRecursion IsUtf8 commands → IsStateKept link (beginning oracle options lines commands connects)
-start_kept lines link oracle options commands connects most texts = record { most = most; world = first_kept lines; told = first_lists; texts = texts; first = refl }
+start_kept lines link oracle options commands connects most texts = record { most = most; world = first_kept lines; told = first_lists; texts = texts; rows = tt; first = refl }
 
 kept_on : (link : ℕ) (state : State) (events : List Event) → IsStateKept link state → IsStateKept link (run state events).state
 kept_on link state [] kept = kept

@@ -38,6 +38,7 @@ use Rattle.wc_mirror_laws.specs.Held.{HeldPart, Has}
 use Rattle.wc_mirror_laws.specs.Kept.{IsStateKept}
 use Rattle.wc_mirror_laws.specs.Mirrors.{fold_all}
 use Rattle.wc_mirror_laws.proofs.ChangeLemmas.{Tells, Tells-stays, Tells-then, Tells-changes, Tells-tells}
+use Rattle.wc_mirror_laws.proofs.LimitLemmas.{counts_same}
 use Rattle.wc_mirror_laws.proofs.MildCommands.{mild_first, mild_loss, mild_close}
 use Rattle.wc_mirror_laws.proofs.MildLemmas.{IsMild, IsMildAct, AreMild, mild_told, mild_dated}
 use Rattle.wc_mirror_laws.proofs.MildMessages.{mild_message}
@@ -51,7 +52,7 @@ serves_none link (out ∷ outs) acts = serves_none link outs acts
 -- options, servers and the numbers of links have no part in what always holds
 pub kept_aside : (link : ℕ) (state : State) (options : OptionsValue) (servers : List ServerSeat) (used : ℕ) → IsStateKept link state
     → IsStateKept link (record state { options = options; servers = servers; used = used })
-kept_aside link state options servers used kept = record { most = kept.most; world = kept.world; told = kept.told; texts = kept.texts; first = kept.first }
+kept_aside link state options servers used kept = record { most = kept.most; world = kept.world; told = kept.told; texts = kept.texts; rows = kept.rows; first = kept.first }
 
 module _ (which : HeldPart) (limit : Option ℕ) (link : ℕ) (id : List ℕ) (free : BeginsWithout 95 id) where
   abbrev Kept : State → Type 0
@@ -69,9 +70,9 @@ module _ (which : HeldPart) (limit : Option ℕ) (link : ℕ) (id : List ℕ) (f
         following = refl;
         kept = kept_aside link state options servers used kept;
         plain = λ plain. plain;
-        back = λ limited. limited;
+        counts = counts_same state.world;
         spelt = subst AllSpelt (sym none) tt;
-        right = λ follows plain limited part had. subst (λ messages. Has which (fold_all which limit id part messages) next) (sym none) had;
+        right = λ follows plain stays part had. subst (λ messages. Has which (fold_all which limit id part messages) next) (sym none) had;
       }
 
   -- what is done from another state that differs in these alone, which is come through
@@ -81,9 +82,9 @@ module _ (which : HeldPart) (limit : Option ℕ) (link : ℕ) (id : List ℕ) (f
     following = tells.following;
     kept = tells.kept;
     plain = λ plain. tells.plain plain;
-    back = λ limited. tells.back limited;
+    counts = tells.counts;
     spelt = tells.spelt;
-    right = λ follows plain limited part had. tells.right follows plain limited part had;
+    right = λ follows plain stays part had. tells.right follows plain stays part had;
   }
 
   -- ---- acts, one by one

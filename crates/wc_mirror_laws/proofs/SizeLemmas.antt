@@ -1,5 +1,5 @@
 -- How long the events that change lines are at most, and the dump of all lines.
-use Rattle.std.proofs.Common.{◌≡◌, ℕ, ◌+◌, ◌*◌, ◌-◌, ◌^◌, ◌<◌, ◌≤◌, Bool, true, false, cond, List, [], ◌∷◌, ◌++◌, length, map, sum_by, Some, refl, ap, ◌∙◌, arith, eqb, leb}
+use Rattle.std.proofs.Common.{◌≡◌, ℕ, ◌+◌, ◌*◌, ◌-◌, ◌^◌, ◌<◌, ◌≤◌, Bool, true, false, cond, List, [], ◌∷◌, ◌++◌, length, map, filter, sum_by, Some, refl, ap, ◌∙◌, arith, eqb, leb}
 use Rattle.std.specs.Prelude.{ℤ, pos, codes}
 use Rattle.std.specs.List.{flat_map, AllByRecursion}
 use Rattle.std.specs.Fmt.{signed_decimal}
@@ -8,7 +8,7 @@ use Rattle.std.specs.Int.Digits.{digits_of}
 use Rattle.std.proofs.lemmas.Bool.Decides.{nat_tests}
 use Rattle.std.proofs.lemmas.List.{length-append, length-map}
 use Rattle.std.proofs.lemmas.List.Elements.{recursion_from_All}
-use Rattle.std.proofs.lemmas.List.Sums.{sum_by-cons}
+use Rattle.std.proofs.lemmas.List.Sums.{sum_by-cons, length-filter, count_by-le-length}
 use Rattle.std.proofs.lemmas.Fmt.{length_signed_le}
 use Rattle.std.proofs.lemmas.Int.Digits.{length-digits_of-le}
 use denote.Hole.Carrier.{out}
@@ -17,6 +17,7 @@ use Rattle.wc_lines.specs.declared.line.Line.{Line}
 use Rattle.wc_buffers.specs.declared.row.BufferEntry.{BufferEntry}
 use Rattle.wc_buffers.specs.Groups.{rows}
 use Rattle.wc_model.specs.declared.notice.Notice.{Notice}
+use Rattle.wc_model.specs.Parts.{is_flipped}
 use Rattle.wc_model.specs.World.{World, lines_at}
 use Rattle.wc_objects.specs.declared.kind.Kind.TheVariants as k
 use Rattle.wc_objects.specs.declared.object.Object.{Object}
@@ -27,11 +28,12 @@ use Rattle.wc_objects.specs.declared.object.HdaItem.{HdaItem, roll-HdaItem}
 use Rattle.wc_objects.specs.Hex.{hex, glyph}
 use Rattle.wc_objects.specs.Spelling.{be32, text_bytes, pointer_bytes, simple_bytes, value_bytes, item_bytes, hda_bytes, object_bytes, message_bytes}
 use Rattle.wc_objects.proofs.Rooms.{length-be32, length-message_bytes}
+use Rattle.wc_keys.specs.Events.{line_path}
 use Rattle.wc_events.specs.LineObjects.{moment, truth, texts, line_keys, line_values, added_item, added_objects, dumped_item, dumped_lines, line_dump}
-use Rattle.wc_events.specs.BufferObjects.{count, named_keys, named_values, named_objects}
+use Rattle.wc_events.specs.BufferObjects.{count, named_keys, named_values, named_objects, flag_keys, flag_item, flag_items, flag_objects}
 use Rattle.wc_mirror_laws.specs.Printed.{IsPrinted}
 use Rattle.wc_mirror_laws.specs.Worlds.{IsBufferKept, IsWorldKept}
-use Rattle.wc_mirror_laws.proofs.ListLemmas.{all_map, all_flat}
+use Rattle.wc_mirror_laws.proofs.ListLemmas.{all_filter, all_map, all_flat}
 use Rattle.wc_mirror_laws.proofs.HandleLemmas.{rows_handles}
 
 hex_size : (p : ℕ) → p < 2 ^ 64 → length (hex p) ≤ 16
@@ -196,6 +198,11 @@ named_small : (notice : Notice) → notice.buffer.0 < 2 ^ 64 → length notice.f
 unfolding item_bytes
 named_small notice small short = item_size (notice.buffer.0 ∷ []) (named_values notice) (4 ∷ 260 ∷ []) (omega arith) (small, tt) (named_short notice short) (omega arith)
 
+flag_small : (buffer : Handle) (line : Line) → buffer.0 < 2 ^ 64 → IsPrinted line → IsSmall (flag_item buffer line)
+unfolding item_bytes
+flag_small buffer line small is =
+    item_size (line.content.0 ∷ []) (o.Ptr buffer.0 ∷ o.Chr (truth line.displayed) ∷ []) (17 ∷ 1 ∷ []) (omega arith) (is.content, tt) (pointer_short buffer.0 small, (level_short (truth line.displayed), tt)) (omega arith)
+
 items_size : (items : List HdaItem) → AllByRecursion IsSmall items → length (flat_map item_bytes items) ≤ 1700 * length items
 items_size [] all = omega arith
 items_size (item ∷ items) all =
@@ -253,6 +260,16 @@ pub added_size : (id : List ℕ) (buffer : Handle) (line : Line) → length id �
 added_size id buffer line known small is =
     let items = added_item buffer line ∷ [] in
     message_size id (codes "line_data") line_keys items known (spelt_size (codes "line_data") line_keys items (omega arith) (omega arith) (omega arith) (added_small buffer line small is, tt))
+
+-- the event of the lines of a buffer whose flags differ, which are at most all that it holds
+pub flags_size : (id : List ℕ) (buffer : Handle) (flips : List Handle) (lines : List Line) → length id ≤ 65536 → buffer.0 < 2 ^ 64 → length lines ≤ 4096 → AllByRecursion IsPrinted lines
+    → length (message_bytes id (flag_objects buffer flips lines)) ≤ 2 ^ 31 - 1
+flags_size id buffer flips lines known small few all =
+    let told = filter (is_flipped flips) lines in
+    let items = flag_items buffer flips lines in
+    message_size id line_path flag_keys items known
+    (spelt_size line_path flag_keys items (omega arith) (omega arith) (omega (arith, length-map told (flag_item buffer), length-filter (is_flipped flips) lines, count_by-le-length (is_flipped flips) lines))
+    (all_map IsPrinted IsSmall (flag_item buffer) told (λ line printed. flag_small buffer line small printed) (all_filter IsPrinted (is_flipped flips) lines all)))
 
 -- the event of a buffer that is closed or cleared
 pub named_size : (id : List ℕ) (notice : Notice) → length id ≤ 65536 → notice.buffer.0 < 2 ^ 64 → length notice.full_name ≤ 256 → length (message_bytes id (named_objects notice)) ≤ 2 ^ 31 - 1

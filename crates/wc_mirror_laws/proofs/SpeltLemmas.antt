@@ -5,7 +5,7 @@ use Rattle.std.specs.List.{AllByRecursion}
 use Rattle.std.specs.Option.{is_none}
 use Rattle.std.specs.Int.{w8, w32, w64}
 use Rattle.std.specs.Int.RustNames.{FitsSigned}
-use Rattle.std.specs.Str.{IsUtf8, is_utf8, chars}
+use Rattle.std.specs.Str.{IsUtf8, bytes_eq, is_utf8, chars}
 use Rattle.std.proofs.lemmas.Str.{IsUtf8-from_is_utf8}
 use lib.Utf8.{encode}
 use denote.Hole.Carrier.{out}
@@ -20,10 +20,9 @@ use Rattle.wc_objects.specs.declared.kind.Kind.{Kind}
 use Rattle.wc_objects.specs.declared.kind.Kind.TheVariants as k
 use Rattle.wc_objects.specs.declared.object.Object.{Object}
 use Rattle.wc_objects.specs.declared.object.Object.TheVariants as o
-use Rattle.wc_objects.specs.declared.object.Object.TheViews.{out-Object, out-roll-Object, out-roll-Hda}
-use Rattle.wc_objects.specs.declared.object.Hda.{roll-Hda}
+use Rattle.wc_objects.specs.declared.object.Object.TheViews.{out-Object, out-roll-Object}
 use Rattle.wc_objects.specs.declared.object.WireMessage.{WireMessage}
-use Rattle.wc_objects.specs.Within.{SimpleWithin, PairWithin, HdaWithin, ObjectWithin}
+use Rattle.wc_objects.specs.Within.{SimpleWithin, PairWithin, ObjectWithin}
 use Rattle.wc_relaycmd.specs.declared.algorithm.Algorithm.{Algorithm}
 use Rattle.wc_relaycmd.specs.declared.request.Command.{Command}
 use Rattle.wc_relaycmd.specs.declared.request.Command.TheVariants as ask
@@ -38,21 +37,24 @@ use Rattle.wc_hdata.specs.Infos.{info_of}
 use Rattle.wc_hdata.proofs.SoundWalks.{sound_formed, walk_within}
 use Rattle.wc_session.specs.declared.client.Client.{Client}
 use Rattle.wc_session.specs.declared.outcome.Outcome.TheVariants as outcome
+use Rattle.wc_hotlist.specs.declared.row.HotRow.{HotRow}
+use Rattle.wc_session.specs.Hotlists.{hotlist_objects, hotlist_text}
+use Rattle.wc_mirror_laws.specs.Kept.{AreSmall}
+use Rattle.wc_mirror_laws.proofs.BesideGood.{null_good, hotlist_good, completion_good}
 use Rattle.wc_session.specs.Handshakes.{choice_in, algorithm_for, asks_escapes, entry, handshake_table, handshake_objects}
 use Rattle.wc_session.specs.Logins.{pairs_let_in}
 use Rattle.wc_session.specs.Names.{buffer_named}
-use Rattle.wc_session.specs.Reply.{Answer, silent, leaves, replies, test_texts, test_numbers, test_objects, hdata_objects, path_objects, unless_refused, info_objects, infolist_objects, or_null, list_of_named, nicklist_objects, pong_objects, shaken, handshake_reply, handshake_answer, init_answer, typed_into, input_answer, is_open, served, reply_of}
+use Rattle.wc_session.specs.Reply.{Answer, silent, leaves, replies, test_texts, test_numbers, test_objects, hdata_answered, hdata_objects, path_objects, unless_refused, info_objects, infolist_objects, or_null, list_of_named, nicklist_objects, pong_objects, shaken, handshake_reply, handshake_answer, init_answer, typed_into, input_answer, is_open, served, reply_of}
 use Rattle.wc_session.specs.Sending.{message, fits, fitting, null_hdata, reply}
-use Rattle.wc_options.specs.Options.{OptionsValue}
+use Rattle.wc_session.specs.RequestContext.{Context}
 use Rattle.wc_session.specs.Heeded.{password_of, masks_of}
-use Rattle.wc_session.proofs.Formed.{null_formed, info_formed, infolist_formed, pong_formed, test_formed, handshake_formed}
+use Rattle.wc_session.proofs.Formed.{info_formed, infolist_formed, pong_formed, test_formed, handshake_formed}
 use Rattle.wc_mirror_laws.specs.Worlds.{IsBufferKept, IsWorldKept}
 use Rattle.wc_mirror_laws.proofs.NickDumps.{nick_dump_good, nick_list_good}
 use Rattle.wc_mirror_laws.proofs.RowLemmas.{row_has}
 use Rattle.wc_mirror_laws.proofs.TellingLemmas.{AllSpelt, AreGood, one_spelt, fitting_spelt}
 use Rattle.wc_mirror_laws.proofs.WorldSound.{infolist_within, world_sound}
 use Rattle.wc_hdata.proofs.ValuesWithin.{simple_str}
-use Rattle.wc_mirror_laws.proofs.WithinLemmas.{hda_within}
 
 -- ---- the numbers of objects
 
@@ -102,13 +104,6 @@ htb_within table all = rw (← o.rolls-Htb k.Str k.Str table, out-roll-Object) a
 
 -- ---- replies
 
-null_within : HdaWithin (roll-Hda (record { path = None; keys = None; items = [] }))
-unfolding HdaWithin
-null_within = rw out-roll-Hda tt
-
-null_good : AreGood null_hdata
-null_good = record { formed = null_formed; within = (hda_within (roll-Hda (record { path = None; keys = None; items = [] })) null_within, tt) }
-
 walk_good : (limit : ℕ) (world : World) (path : Path) (keys : List ℕ) → IsWorldKept limit world → AreGood (walk_object world path keys ∷ [])
 walk_good limit world path keys is =
     let sound = world_sound limit world is in
@@ -124,6 +119,13 @@ hdata_good limit world text keys is = by (path_of text) where
   by : (o : Option Path) → AreGood (path_objects world keys o)
   by None = null_good
   by (Some path) = told path (refusal world path keys)
+
+answered_good : (limit : ℕ) (world : World) (rows : List HotRow) (text keys : List ℕ) → IsWorldKept limit world → AreSmall rows → AreGood (hdata_answered world rows text keys)
+unfolding hdata_answered
+answered_good limit world rows text keys is small = by (bytes_eq text hotlist_text) where
+  by : (b : Bool) → AreGood (cond b (hotlist_objects rows keys) (hdata_objects world text keys))
+  by true = hotlist_good rows keys small
+  by false = hdata_good limit world text keys is
 
 nicklist_good : (limit : ℕ) (world : World) (buffer : Option (List ℕ)) → IsWorldKept limit world → AreGood (nicklist_objects world buffer)
 unfolding nicklist_objects
@@ -259,25 +261,25 @@ pong_is_text = refl
 pong_text : IsUtf8 (codes "_pong")
 pong_text = IsUtf8-from_is_utf8 (codes "_pong") pong_is_text
 
-served_spelt : (limit : ℕ) (world : World) (options : OptionsValue) (client : Client) (id : List ℕ) (command : Command) → IsWorldKept limit world → IsUtf8 id → CommandUtf8 command → AllSpelt (served world options client id command).messages
+served_spelt : (limit : ℕ) (world : World) (context : Context) (client : Client) (id : List ℕ) (command : Command) → IsWorldKept limit world → AreSmall context.hotlist → IsUtf8 id → CommandUtf8 command → AllSpelt (served world context client id command).messages
 unfolding served CommandUtf8
-served_spelt limit world options client id (ask.Handshake pairs) is text utf8 = handshake_spelt (masks_of options) client id pairs text
-served_spelt limit world options client id (ask.Init pairs) is text utf8 = init_spelt (masks_of options) (password_of options) client pairs
-served_spelt limit world options client id (ask.Hdata path keys) is text utf8 = replies_spelt client _ (reply_spelt id _ text (hdata_good limit world path keys is))
-served_spelt limit world options client id (ask.Info name) is text utf8 = replies_spelt client _ (reply_spelt id _ text (info_good name utf8))
-served_spelt limit world options client id (ask.Infolist name argument) is text utf8 = replies_spelt client _ (reply_spelt id _ text (infolist_good limit world name argument is utf8.0))
-served_spelt limit world options client id (ask.Nicklist buffer) is text utf8 = replies_spelt client _ (reply_spelt id _ text (nicklist_good limit world buffer is))
-served_spelt limit world options client id (ask.Input buffer typed) is text utf8 = input_spelt world.groups client buffer typed
-served_spelt limit world options client id (ask.Completion buffer position typed) is text utf8 = replies_spelt client _ (reply_spelt id _ text null_good)
-served_spelt limit world options client id (ask.Sync buffers asked) is text utf8 = tt
-served_spelt limit world options client id (ask.Desync buffers asked) is text utf8 = tt
-served_spelt limit world options client id ask.Test is text utf8 = replies_spelt client _ (reply_spelt id _ text test_good)
-served_spelt limit world options client id (ask.Ping typed) is text utf8 = replies_spelt client _ (reply_spelt (codes "_pong") _ pong_text (pong_good typed utf8))
-served_spelt limit world options client id ask.Quit is text utf8 = tt
+served_spelt limit world context client id (ask.Handshake pairs) is small text utf8 = handshake_spelt (masks_of context.options) client id pairs text
+served_spelt limit world context client id (ask.Init pairs) is small text utf8 = init_spelt (masks_of context.options) (password_of context.options) client pairs
+served_spelt limit world context client id (ask.Hdata path keys) is small text utf8 = replies_spelt client _ (reply_spelt id _ text (answered_good limit world context.hotlist path keys is small))
+served_spelt limit world context client id (ask.Info name) is small text utf8 = replies_spelt client _ (reply_spelt id _ text (info_good name utf8))
+served_spelt limit world context client id (ask.Infolist name argument) is small text utf8 = replies_spelt client _ (reply_spelt id _ text (infolist_good limit world name argument is utf8.0))
+served_spelt limit world context client id (ask.Nicklist buffer) is small text utf8 = replies_spelt client _ (reply_spelt id _ text (nicklist_good limit world buffer is))
+served_spelt limit world context client id (ask.Input buffer typed) is small text utf8 = input_spelt world.groups client buffer typed
+served_spelt limit world context client id (ask.Completion buffer position typed) is small text utf8 = replies_spelt client _ (reply_spelt id _ text (completion_good world context.commands buffer position typed utf8.1))
+served_spelt limit world context client id (ask.Sync buffers asked) is small text utf8 = tt
+served_spelt limit world context client id (ask.Desync buffers asked) is small text utf8 = tt
+served_spelt limit world context client id ask.Test is small text utf8 = replies_spelt client _ (reply_spelt id _ text test_good)
+served_spelt limit world context client id (ask.Ping typed) is small text utf8 = replies_spelt client _ (reply_spelt (codes "_pong") _ pong_text (pong_good typed utf8))
+served_spelt limit world context client id ask.Quit is small text utf8 = tt
 
 -- what a request gets
-pub answer_spelt : (limit : ℕ) (world : World) (options : OptionsValue) (client : Client) (request : Request) → IsWorldKept limit world → RequestIsUtf8 request → AllSpelt (reply_of world options client request).messages
+pub answer_spelt : (limit : ℕ) (world : World) (context : Context) (client : Client) (request : Request) → IsWorldKept limit world → AreSmall context.hotlist → RequestIsUtf8 request → AllSpelt (reply_of world context client request).messages
 unfolding reply_of
-answer_spelt limit world options client request is utf8 =
-    if_spelt (client.logged_in || is_open request.command) (served world options client request.id request.command) (leaves client cause.LoginFailed)
-    (served_spelt limit world options client request.id request.command is utf8.id utf8.command) tt
+answer_spelt limit world context client request is small utf8 =
+    if_spelt (client.logged_in || is_open request.command) (served world context client request.id request.command) (leaves client cause.LoginFailed)
+    (served_spelt limit world context client request.id request.command is small utf8.id utf8.command) tt

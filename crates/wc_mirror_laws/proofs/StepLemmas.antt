@@ -17,6 +17,7 @@ use Rattle.wc_session.specs.declared.outcome.Outcome.{Outcome}
 use Rattle.wc_session.specs.declared.outcome.Outcome.TheVariants as outcome
 use Rattle.wc_session.specs.Known.{new_client}
 use Rattle.wc_session.specs.Reply.{Answer, reply_of}
+use Rattle.wc_core.specs.Contexts.{context_of}
 use Rattle.wc_core.specs.Events.{Event, Start, Tick, Arrives, Line as LineCame, Stands, Ends, Fails, Breaks, ListenFails}
 use Rattle.wc_core.specs.State.{State, Stepped, Closes}
 use Rattle.wc_servers.specs.Seats.{server_link}
@@ -27,19 +28,20 @@ use Rattle.wc_core.specs.Served.{OutcomeUtf8}
 use Rattle.wc_core.specs.Typed.{lines_of_text}
 use Rattle.wc_core.proofs.ReplyLemmas.{reply_fits}
 use Rattle.wc_mirror_laws.specs.Held.{HeldPart, Lines, HeldOf, Has}
-use Rattle.wc_mirror_laws.specs.Settled.{asked_by, asked_with, asked_in, client_on, is_following, IsPlain, IsLimited}
+use Rattle.wc_mirror_laws.specs.Settled.{asked_by, asked_with, asked_in, client_on, is_following, IsPlain, LimitStays}
 use Rattle.wc_mirror_laws.specs.Kept.{is_first_alone, IsStateKept}
 use Rattle.wc_mirror_laws.specs.Mirrors.{mirror_after, StepKeeps}
 use Rattle.wc_mirror_laws.proofs.ClientLemmas.{following-push, first-push, first-put, first-without}
 use Rattle.wc_mirror_laws.proofs.ChangeLemmas.{mirror-append}
 use Rattle.wc_mirror_laws.proofs.InputLemmas.{Tells-runs, Tells-start}
+use Rattle.wc_mirror_laws.proofs.LimitLemmas.{Counts, counts_same, counts_then}
 use Rattle.wc_mirror_laws.proofs.ServerLemmas.{Tells-line, Tells-loss, Tells-stands}
 use Rattle.wc_mirror_laws.proofs.AskedLemmas.{before_reply, asked_after, Tells-before, OnInput, input_stays}
 use Rattle.wc_mirror_laws.proofs.PushLemmas.{Tells-pushes}
 use Rattle.wc_mirror_laws.proofs.TypedLemmas.{parted_text}
 
 kept-clients : (link : ℕ) (state : State) (clients : List Client) → IsStateKept link state → is_first_alone link clients ≡ true → IsStateKept link (record state { clients = clients })
-kept-clients link state clients kept e = record { most = kept.most; world = kept.world; told = kept.told; texts = kept.texts; first = e }
+kept-clients link state clients kept e = record { most = kept.most; world = kept.world; told = kept.told; texts = kept.texts; rows = kept.rows; first = e }
 
 kept-leaves : (link : ℕ) (state : State) (k : ℕ) (why : Cause) → IsStateKept link state → IsStateKept link (leave_step state k why).state
 kept-leaves link state k why kept = kept-clients link state (without client_link k state.clients) kept (first-without link k state.clients kept.first)
@@ -54,15 +56,15 @@ kept-follows link state k (outcome.Leave why) utf8 kept = kept-leaves link state
 kept-follows link state k outcome.NoMemory utf8 kept = kept
 
 right-follows : (which : HeldPart) (limit : Option ℕ) (link : ℕ) (id : List ℕ) (state : State) (k : ℕ) (o : Outcome) (part : HeldOf which) → OutcomeUtf8 o → IsStateKept link state → BeginsWithout 95 id
-    → OnInput o (IsPlain limit (client_on link state)) → is_following limit (client_on link (outcome_step state k o).state) ≡ true → IsLimited limit (outcome_step state k o).state.world → Has which part state
+    → OnInput o (IsPlain limit (client_on link state)) → is_following limit (client_on link (outcome_step state k o).state) ≡ true → LimitStays limit state.world (outcome_step state k o).state.world → Has which part state
     → Has which (mirror_after which limit link id part (outcome_step state k o).acts) (outcome_step state k o).state
-right-follows which limit link id state k outcome.Replied part utf8 kept free plain after limited had = had
-right-follows which limit link id state k outcome.Silent part utf8 kept free plain after limited had = had
-right-follows which limit link id state k (outcome.Input buffer text) part utf8 kept free plain after limited had =
+right-follows which limit link id state k outcome.Replied part utf8 kept free plain after stays had = had
+right-follows which limit link id state k outcome.Silent part utf8 kept free plain after stays had = had
+right-follows which limit link id state k (outcome.Input buffer text) part utf8 kept free plain after stays had =
     let tells = Tells-runs which limit link id state buffer (lines_of_text text) free kept (parted_text text utf8) in
-    tells.right (sym tells.following ∙ after) plain limited part had
-right-follows which limit link id state k (outcome.Leave why) part utf8 kept free plain after limited had = had
-right-follows which limit link id state k outcome.NoMemory part utf8 kept free plain after limited had = had
+    tells.right (sym tells.following ∙ after) plain stays part had
+right-follows which limit link id state k (outcome.Leave why) part utf8 kept free plain after stays had = had
+right-follows which limit link id state k outcome.NoMemory part utf8 kept free plain after stays had = had
 
 -- the state after the messages of an answer
 abbrev pub put : State → ℕ → Client → State
@@ -76,14 +78,14 @@ kept-answers link state k answer here utf8 kept = kept-follows link (put state k
 
 -- where the messages of an answer leave a part right, so does what follows them
 pub right-answers : (which : HeldPart) (limit : Option ℕ) (link : ℕ) (id : List ℕ) (state : State) (k : ℕ) (answer : Answer) (part : HeldOf which) → client_link answer.client ≡ k → OutcomeUtf8 answer.outcome → IsStateKept link state → BeginsWithout 95 id
-    → OnInput answer.outcome (IsPlain limit (client_on link (put state k answer.client))) → is_following limit (client_on link (answer_step state k answer).state) ≡ true → IsLimited limit (answer_step state k answer).state.world
+    → OnInput answer.outcome (IsPlain limit (client_on link (put state k answer.client))) → is_following limit (client_on link (answer_step state k answer).state) ≡ true → LimitStays limit state.world (answer_step state k answer).state.world
     → Has which (mirror_after which limit link id part (sends k answer.messages)) state
     → Has which (mirror_after which limit link id part (answer_step state k answer).acts) (answer_step state k answer).state
-right-answers which limit link id state k answer part here utf8 kept free plain after limited had =
+right-answers which limit link id state k answer part here utf8 kept free plain after stays had =
     let next = put state k answer.client in
     let last = (outcome_step next k answer.outcome).state in
     subst (λ part. Has which part last) (sym (mirror-append which limit link id part (sends k answer.messages) (outcome_step next k answer.outcome).acts))
-    (right-follows which limit link id next k answer.outcome (mirror_after which limit link id part (sends k answer.messages)) utf8 (kept-put link state k answer.client here kept) free plain after limited had)
+    (right-follows which limit link id next k answer.outcome (mirror_after which limit link id part (sends k answer.messages)) utf8 (kept-put link state k answer.client here kept) free plain after stays had)
 
 -- a client that is typed for did not come to ask for lines that went
 on_input : (o : Outcome) (P Q : Type 0) → (P → Q) → OnInput o P → OnInput o Q
@@ -91,25 +93,25 @@ on_input (outcome.Input buffer text) P Q f p = f p
 on_input _ P Q f p = tt
 
 pub reply_plain : (limit : Option ℕ) (link : ℕ) (state : State) (client : Client) (request : Request) → at_key client_link (client_link client) state.clients ≡ Some client → IsPlain limit (client_on link state)
-    → OnInput (reply_of state.world state.options client request).outcome (IsPlain limit (client_on link (put state (client_link client) (reply_of state.world state.options client request).client)))
+    → OnInput (reply_of state.world (context_of state) client request).outcome (IsPlain limit (client_on link (put state (client_link client) (reply_of state.world (context_of state) client request).client)))
 reply_plain limit link state client request at plain =
     let k = client_link client in
-    let answer = reply_of state.world state.options client request in
+    let answer = reply_of state.world (context_of state) client request in
     let same = subst (λ clients. IsPlain limit (at_key client_link link clients)) (sym (put_at-same client_link k state.clients client at)) plain in
     on_input answer.outcome (answer.client ≡ client) (IsPlain limit (client_on link (put state k answer.client))) (λ e. subst (λ c. IsPlain limit (client_on link (put state k c))) (sym e) same)
-    (input_stays state.world state.options client request)
+    (input_stays state.world (context_of state) client request)
 
 -- ---- what is answered to a request
 
 -- what is typed by a request is text
-pub reply_text : (state : State) (client : Client) (line : List ℕ) (request : Request) → request_of client.escaped line ≡ Some request → OutcomeUtf8 (reply_of state.world state.options client request).outcome
+pub reply_text : (state : State) (client : Client) (line : List ℕ) (request : Request) → request_of client.escaped line ≡ Some request → OutcomeUtf8 (reply_of state.world (context_of state) client request).outcome
 reply_text state client line request e =
-    (reply_fits state.world state.options client request (RequestIsUtf8-reads line client.escaped request (reads-request_of line client.escaped request e))).text
+    (reply_fits state.world (context_of state) client request (RequestIsUtf8-reads line client.escaped request (reads-request_of line client.escaped request e))).text
 
 pub reply_link : (state : State) (client : Client) (line : List ℕ) (request : Request) → request_of client.escaped line ≡ Some request
-    → client_link (reply_of state.world state.options client request).client ≡ client_link client
+    → client_link (reply_of state.world (context_of state) client request).client ≡ client_link client
 reply_link state client line request e =
-    ap (λ (l : LinkId). l.0) (reply_fits state.world state.options client request (RequestIsUtf8-reads line client.escaped request (reads-request_of line client.escaped request e))).link
+    ap (λ (l : LinkId). l.0) (reply_fits state.world (context_of state) client request (RequestIsUtf8-reads line client.escaped request (reads-request_of line client.escaped request e))).link
 
 -- ---- a line of a client
 
@@ -127,7 +129,7 @@ kept-line link state k line kept = came (at_key client_link k state.clients) whe
   served client (Some request) e =
       let next = (before_reply state client request).state in
       subst (λ (s : Stepped). IsStateKept link s.state) (sym (asked_after state client request))
-      (kept-answers link next (client_link client) (reply_of next.world next.options client request) (reply_link next client line request e) (reply_text next client line request e)
+      (kept-answers link next (client_link client) (reply_of next.world (context_of next) client request) (reply_link next client line request e) (reply_text next client line request e)
       (Tells-before Lines None link [] state client request tt kept).kept)
 
   came : (o : Option Client) → IsStateKept link (link_line_step state k line o).state
@@ -145,7 +147,7 @@ abbrev pub ticked : State → ℕ → State
 ticked state moment = record state { moment = moment }
 
 pub kept-ticked : (link : ℕ) (state : State) (moment : ℕ) → IsStateKept link state → IsStateKept link (ticked state moment)
-kept-ticked link state moment kept = record { most = kept.most; world = kept.world; told = kept.told; texts = kept.texts; first = kept.first }
+kept-ticked link state moment kept = record { most = kept.most; world = kept.world; told = kept.told; texts = kept.texts; rows = kept.rows; first = kept.first }
 
 -- a client that came, where there are not too many
 abbrev pub arrived : State → ℕ → List ℕ → Bool → Stepped
@@ -162,8 +164,8 @@ step_keeps link state (Arrives k nonce) kept = by (nat_lt (length state.clients)
   came = new_client (record { 0 = k }) nonce
 
   by : (b : Bool) → IsStateKept link (arrived state k nonce b).state
-  by true = record { most = kept.most; world = kept.world; told = kept.told; texts = kept.texts; first = first-push link came state.clients refl ∙ kept.first }
-  by false = record { most = kept.most; world = kept.world; told = kept.told; texts = kept.texts; first = kept.first }
+  by true = record { most = kept.most; world = kept.world; told = kept.told; texts = kept.texts; rows = kept.rows; first = first-push link came state.clients refl ∙ kept.first }
+  by false = record { most = kept.most; world = kept.world; told = kept.told; texts = kept.texts; rows = kept.rows; first = kept.first }
 step_keeps link state (LineCame k line) kept = kept-line link state k line kept
 step_keeps link state (Stands k) kept = (Tells-stands Lines None link [] tt state k (at_key server_link k state.servers) kept).kept
 step_keeps link state (Ends k) kept = kept-lost link state k cause.Ended (at_key client_link k state.clients) kept
@@ -171,51 +173,53 @@ step_keeps link state (Fails k) kept = kept-lost link state k cause.Failed (at_k
 step_keeps link state (Breaks k) kept = kept-lost link state k cause.BadSocket (at_key client_link k state.clients) kept
 step_keeps link state ListenFails kept = kept
 
--- ---- a limit that was never changed after an event was not changed before it
+-- ---- each change of the limit is counted
 
-pub back-follows : (limit : Option ℕ) (link : ℕ) (state : State) (k : ℕ) (o : Outcome) → OutcomeUtf8 o → IsStateKept link state → IsLimited limit (outcome_step state k o).state.world → IsLimited limit state.world
-back-follows limit link state k outcome.Replied utf8 kept limited = limited
-back-follows limit link state k outcome.Silent utf8 kept limited = limited
-back-follows limit link state k (outcome.Input buffer text) utf8 kept limited = (Tells-runs Lines limit link [] state buffer (lines_of_text text) tt kept (parted_text text utf8)).back limited
-back-follows limit link state k (outcome.Leave why) utf8 kept limited = limited
-back-follows limit link state k outcome.NoMemory utf8 kept limited = limited
+counts_follows : (link : ℕ) (state : State) (k : ℕ) (o : Outcome) → OutcomeUtf8 o → IsStateKept link state → Counts state.world (outcome_step state k o).state.world
+counts_follows link state k outcome.Replied utf8 kept = counts_same state.world
+counts_follows link state k outcome.Silent utf8 kept = counts_same state.world
+counts_follows link state k (outcome.Input buffer text) utf8 kept = (Tells-runs Lines None link [] state buffer (lines_of_text text) tt kept (parted_text text utf8)).counts
+counts_follows link state k (outcome.Leave why) utf8 kept = counts_same state.world
+counts_follows link state k outcome.NoMemory utf8 kept = counts_same state.world
 
-pub back-replies : (limit : Option ℕ) (link : ℕ) (state : State) (line : List ℕ) (client : Client) (request : Request) → request_of client.escaped line ≡ Some request → IsStateKept link state
-    → IsLimited limit (reply_step state client request).state.world → IsLimited limit state.world
-back-replies limit link state line client request e kept limited =
+pub counts_replies : (link : ℕ) (state : State) (line : List ℕ) (client : Client) (request : Request) → request_of client.escaped line ≡ Some request → IsStateKept link state
+    → Counts state.world (reply_step state client request).state.world
+counts_replies link state line client request e kept =
     let k = client_link client in
-    let answer = reply_of state.world state.options client request in
-    back-follows limit link (put state k answer.client) k answer.outcome (reply_text state client line request e) (kept-put link state k answer.client (reply_link state client line request e) kept) limited
+    let answer = reply_of state.world (context_of state) client request in
+    counts_follows link (put state k answer.client) k answer.outcome (reply_text state client line request e) (kept-put link state k answer.client (reply_link state client line request e) kept)
 
-back-line : (limit : Option ℕ) (link : ℕ) (state : State) (k : ℕ) (line : List ℕ) → IsStateKept link state → IsLimited limit (step state (LineCame k line)).state.world → IsLimited limit state.world
-back-line limit link state k line kept limited = came (at_key client_link k state.clients) limited where
-  served : (client : Client) (o : Option Request) → request_of client.escaped line ≡ o → IsLimited limit (request_step state client o).state.world → IsLimited limit state.world
-  served client None e limited = limited
-  served client (Some request) e limited =
-      let tells = Tells-before Lines limit link [] state client request tt kept in
-      tells.back (back-replies limit link (before_reply state client request).state line client request e tells.kept (subst (λ (s : Stepped). IsLimited limit s.state.world) (asked_after state client request) limited))
+counts_line : (link : ℕ) (state : State) (k : ℕ) (line : List ℕ) → IsStateKept link state → Counts state.world (step state (LineCame k line)).state.world
+counts_line link state k line kept = came (at_key client_link k state.clients) where
+  served : (client : Client) (o : Option Request) → request_of client.escaped line ≡ o → Counts state.world (request_step state client o).state.world
+  served client None e = counts_same state.world
+  served client (Some request) e =
+      let first = before_reply state client request in
+      let tells = Tells-before Lines None link [] state client request tt kept in
+      subst (λ (s : Stepped). Counts state.world s.state.world) (sym (asked_after state client request))
+      (counts_then state.world first.state.world (reply_step first.state client request).state.world tells.counts (counts_replies link first.state line client request e tells.kept))
 
-  came : (o : Option Client) → IsLimited limit (link_line_step state k line o).state.world → IsLimited limit state.world
-  came None limited = (Tells-line Lines limit link [] tt state k line (at_key server_link k state.servers) kept).back limited
-  came (Some client) limited = served client (request_of client.escaped line) refl limited
+  came : (o : Option Client) → Counts state.world (link_line_step state k line o).state.world
+  came None = (Tells-line Lines None link [] tt state k line (at_key server_link k state.servers) kept).counts
+  came (Some client) = served client (request_of client.escaped line) refl
 
-back-lost : (limit : Option ℕ) (link : ℕ) (state : State) (k : ℕ) (why : Cause) (o : Option Client) → IsStateKept link state → IsLimited limit (link_loss_step state k why o).state.world → IsLimited limit state.world
-back-lost limit link state k why None kept limited = (Tells-loss Lines limit link [] tt k why state (at_key server_link k state.servers) kept).back limited
-back-lost limit link state k why (Some client) kept limited = limited
+counts_lost : (link : ℕ) (state : State) (k : ℕ) (why : Cause) (o : Option Client) → IsStateKept link state → Counts state.world (link_loss_step state k why o).state.world
+counts_lost link state k why None kept = (Tells-loss Lines None link [] tt k why state (at_key server_link k state.servers) kept).counts
+counts_lost link state k why (Some client) kept = counts_same state.world
 
-pub step_back : (limit : Option ℕ) (link : ℕ) (state : State) (event : Event) → IsStateKept link state → IsLimited limit (step state event).state.world → IsLimited limit state.world
-step_back limit link state (Start moment) kept limited = (Tells-start Lines limit link [] state moment tt kept).back limited
-step_back limit link state (Tick moment) kept limited = limited
-step_back limit link state (Arrives k nonce) kept limited = by (nat_lt (length state.clients) (client_limit state.options)) limited where
-  by : (b : Bool) → IsLimited limit (arrived state k nonce b).state.world → IsLimited limit state.world
-  by true limited = limited
-  by false limited = limited
-step_back limit link state (LineCame k line) kept limited = back-line limit link state k line kept limited
-step_back limit link state (Stands k) kept limited = (Tells-stands Lines limit link [] tt state k (at_key server_link k state.servers) kept).back limited
-step_back limit link state (Ends k) kept limited = back-lost limit link state k cause.Ended (at_key client_link k state.clients) kept limited
-step_back limit link state (Fails k) kept limited = back-lost limit link state k cause.Failed (at_key client_link k state.clients) kept limited
-step_back limit link state (Breaks k) kept limited = back-lost limit link state k cause.BadSocket (at_key client_link k state.clients) kept limited
-step_back limit link state ListenFails kept limited = limited
+pub step_counts : (link : ℕ) (state : State) (event : Event) → IsStateKept link state → Counts state.world (step state event).state.world
+step_counts link state (Start moment) kept = (Tells-start Lines None link [] state moment tt kept).counts
+step_counts link state (Tick moment) kept = counts_same state.world
+step_counts link state (Arrives k nonce) kept = by (nat_lt (length state.clients) (client_limit state.options)) where
+  by : (b : Bool) → Counts state.world (arrived state k nonce b).state.world
+  by true = counts_same state.world
+  by false = counts_same state.world
+step_counts link state (LineCame k line) kept = counts_line link state k line kept
+step_counts link state (Stands k) kept = (Tells-stands Lines None link [] tt state k (at_key server_link k state.servers) kept).counts
+step_counts link state (Ends k) kept = counts_lost link state k cause.Ended (at_key client_link k state.clients) kept
+step_counts link state (Fails k) kept = counts_lost link state k cause.Failed (at_key client_link k state.clients) kept
+step_counts link state (Breaks k) kept = counts_lost link state k cause.BadSocket (at_key client_link k state.clients) kept
+step_counts link state ListenFails kept = counts_same state.world
 
 -- ---- whether a client followed before an event
 
@@ -264,7 +268,7 @@ following-line limit link state k line kept none after = came (at_key client_lin
       let next = (before_reply state client request).state in
       let tells = Tells-before Lines limit link [] state client request tt kept in
       sym tells.following
-      ∙ following-answers limit link next (client_link client) (reply_of next.world next.options client request) (reply_link next client line request e) (other client request at e) (reply_text next client line request e) tells.kept
+      ∙ following-answers limit link next (client_link client) (reply_of next.world (context_of next) client request) (reply_link next client line request e) (other client request at e) (reply_text next client line request e) tells.kept
       (subst (λ (s : Stepped). is_following limit (client_on link s.state) ≡ true) (asked_after state client request) after)
 
   came : (o : Option Client) → at_key client_link k state.clients ≡ o → is_following limit (client_on link (link_line_step state k line o).state) ≡ true → is_following limit (client_on link state) ≡ true

@@ -1,6 +1,6 @@
 -- The event of each change that commands ask for: it keeps the rules of messages, and it is told.
 use Rattle.std.proofs.Common.{◌≡◌, ℕ, ◌-◌, ◌^◌, ◌≤◌, Bool, true, false, cond, List, [], ◌∷◌, length, Option, Some, None, option_map, refl, ap, arith}
-use Rattle.std.specs.List.{AllByRecursion}
+use Rattle.std.specs.List.{AllByRecursion, list_any}
 use Rattle.std.specs.Str.{IsUtf8}
 use Rattle.std.proofs.lemmas.Bool.Decides.{nat_tests}
 use Rattle.std.proofs.lemmas.List.Elements.{recursion_from_All}
@@ -14,6 +14,7 @@ use Rattle.wc_model.specs.declared.notice.EventKind.{EventKind}
 use Rattle.wc_model.specs.declared.notice.EventKind.TheVariants as kind
 use Rattle.wc_model.specs.declared.notice.Notice.{Notice}
 use Rattle.wc_model.specs.declared.notice.Trim.{Trim}
+use Rattle.wc_model.specs.Parts.{is_flipped}
 use Rattle.wc_model.specs.World.{World, lines_at}
 use Rattle.wc_lines.specs.Ring.{newest}
 use Rattle.wc_objects.specs.declared.object.Object.{Object}
@@ -23,9 +24,9 @@ use Rattle.wc_objects.specs.Spelling.{message_bytes}
 use Rattle.wc_objects.specs.Within.{ObjectWithin}
 use Rattle.wc_keys.proofs.EventIds.{id_text}
 use Rattle.wc_events.specs.LineObjects.{added_objects}
-use Rattle.wc_events.specs.BufferObjects.{id_of, objects_of, event_objects, event_of, opened_objects, renamed_objects, title_objects, vars_objects, trim_objects, trimmed_objects}
+use Rattle.wc_events.specs.BufferObjects.{id_of, objects_of, event_objects, event_of, opened_objects, renamed_objects, title_objects, vars_objects, flag_objects, flagged_objects, trim_objects, trimmed_objects}
 use Rattle.wc_events.proofs.Formed.{added_formed}
-use Rattle.wc_events.proofs.EventsFormed.{opened_formed, placed_formed, renamed_formed, title_formed, vars_formed, named_formed, trims_formed}
+use Rattle.wc_events.proofs.EventsFormed.{opened_formed, placed_formed, renamed_formed, title_formed, vars_formed, named_formed, flags_formed, trims_formed}
 use Rattle.wc_session.specs.Event.{if_fits, event_messages}
 use Rattle.wc_session.specs.Sending.{fits, fitting}
 use Rattle.wc_session.proofs.SendingLemmas.{fits_within}
@@ -35,8 +36,8 @@ use Rattle.wc_mirror_laws.specs.Bytes.{IsSpelt}
 use Rattle.wc_mirror_laws.proofs.BufferSizes.{opened_size, placed_size, renamed_size, title_size, vars_size, trim_size}
 use Rattle.wc_mirror_laws.proofs.RowLemmas.{row_has}
 use Rattle.wc_mirror_laws.proofs.NoticeLemmas.{IsTrimTold, IsTelling}
-use Rattle.wc_mirror_laws.proofs.SizeLemmas.{added_size, named_size}
-use Rattle.wc_mirror_laws.proofs.WithinLemmas.{event_within, opened_within, placed_within, renamed_within, title_within, vars_within, named_within, trim_within}
+use Rattle.wc_mirror_laws.proofs.SizeLemmas.{added_size, flags_size, named_size}
+use Rattle.wc_mirror_laws.proofs.WithinLemmas.{event_within, opened_within, placed_within, renamed_within, title_within, vars_within, named_within, flags_within, trim_within}
 
 -- ---- messages that keep the rules
 
@@ -82,6 +83,12 @@ on_trims : (P : List Object → Type 0) (trims : List Trim) → AllByRecursion I
 on_trims P [] all each = tt
 on_trims P (trim ∷ trims) all each = each trim all.0
 
+on_flags : (P : List Object → Type 0) (buffer : Handle) (flips : List Handle) (lines : List Line) → P (flag_objects buffer flips lines) → OnObjects P (flagged_objects buffer flips lines)
+on_flags P buffer flips lines p = by (list_any (is_flipped flips) lines) where
+  by : (b : Bool) → OnObjects P (cond b (Some (flag_objects buffer flips lines)) None)
+  by true = p
+  by false = tt
+
 entry_kept : (limit : ℕ) (v : World) (n : Notice) (e : BufferEntry) → IsWorldKept limit v → entry_of n.buffer v.groups ≡ Some e → IsBufferKept v.next e
 entry_kept limit v n e is at = row_has (IsBufferKept v.next) handle_of n.buffer.0 (rows v.groups) e at is.each
 
@@ -106,7 +113,10 @@ objects_good limit v kind.Closing n is tells = record { formed = named_formed n 
 objects_good limit v kind.LineAdded n is tells =
     on_newest AreGood n.buffer (lines_at v n.buffer.0) (recursion_from_All IsPrinted (lines_at v n.buffer.0) (is.printed n.buffer.0))
     (λ line printed. record { formed = added_formed n.buffer line printed.text; within = event_within n.buffer line tells.buffer printed })
-objects_good limit v kind.LineDataChanged n is tells = tt
+objects_good limit v kind.LineDataChanged n is tells =
+    let lines = lines_at v n.buffer.0 in
+    on_flags AreGood n.buffer n.flips lines
+    (record { formed = flags_formed n.buffer n.flips lines; within = flags_within n.buffer n.flips lines tells.buffer (recursion_from_All IsPrinted lines (is.printed n.buffer.0)) })
 objects_good limit v kind.Nicklist n is tells = tt
 objects_good limit v kind.NicklistDiff n is tells = tt
 objects_good limit v kind.NickTouched n is tells = tt
@@ -126,30 +136,34 @@ event_spelt limit v n is tells = by (event_objects v n) (objects_good limit v n.
 abbrev IsShort : EventKind → List Object → Type 0
 IsShort k objects = length (message_bytes (id_of k) objects) ≤ 2 ^ 31 - 1
 
-objects_short : (limit : ℕ) (v : World) (k : EventKind) (n : Notice) → IsWorldKept limit v → IsTelling n → OnObjects (IsShort k) (objects_of v k n)
+objects_short : (limit : ℕ) (v : World) (k : EventKind) (n : Notice) → limit ≤ 4096 → IsWorldKept limit v → IsTelling n → OnObjects (IsShort k) (objects_of v k n)
 unfolding objects_of
-objects_short limit v kind.Opened n is tells = on_entry (IsShort kind.Opened) (opened_objects n) (entry_of n.buffer v.groups) (λ e at. let kept = entry_kept limit v n e is at in opened_size (id_of kind.Opened) n e (omega arith) tells kept.fit kept.names)
-objects_short limit v kind.Moved n is tells = placed_size (id_of kind.Moved) n (omega arith) tells
-objects_short limit v kind.Merged n is tells = placed_size (id_of kind.Merged) n (omega arith) tells
-objects_short limit v kind.Unmerged n is tells = placed_size (id_of kind.Unmerged) n (omega arith) tells
-objects_short limit v kind.Hidden n is tells = placed_size (id_of kind.Hidden) n (omega arith) tells
-objects_short limit v kind.Unhidden n is tells = placed_size (id_of kind.Unhidden) n (omega arith) tells
-objects_short limit v kind.Renamed n is tells = on_entry (IsShort kind.Renamed) (renamed_objects n) (entry_of n.buffer v.groups) (λ e at. let kept = entry_kept limit v n e is at in renamed_size (id_of kind.Renamed) n e (omega arith) tells kept.fit kept.names)
-objects_short limit v kind.TitleChanged n is tells = on_entry (IsShort kind.TitleChanged) (title_objects n) (entry_of n.buffer v.groups) (λ e at. let kept = entry_kept limit v n e is at in title_size (id_of kind.TitleChanged) n e (omega arith) tells kept.fit kept.names)
-objects_short limit v kind.VarAdded n is tells = on_entry (IsShort kind.VarAdded) (vars_objects n) (entry_of n.buffer v.groups) (λ e at. let kept = entry_kept limit v n e is at in vars_size (id_of kind.VarAdded) n e (omega arith) tells kept.fit kept.names)
-objects_short limit v kind.VarChanged n is tells = on_entry (IsShort kind.VarChanged) (vars_objects n) (entry_of n.buffer v.groups) (λ e at. let kept = entry_kept limit v n e is at in vars_size (id_of kind.VarChanged) n e (omega arith) tells kept.fit kept.names)
-objects_short limit v kind.VarRemoved n is tells = on_entry (IsShort kind.VarRemoved) (vars_objects n) (entry_of n.buffer v.groups) (λ e at. let kept = entry_kept limit v n e is at in vars_size (id_of kind.VarRemoved) n e (omega arith) tells kept.fit kept.names)
-objects_short limit v kind.Cleared n is tells = named_size (id_of kind.Cleared) n (omega arith) tells.buffer tells.short
-objects_short limit v kind.Closing n is tells = named_size (id_of kind.Closing) n (omega arith) tells.buffer tells.short
-objects_short limit v kind.LineAdded n is tells =
+objects_short limit v kind.Opened n most is tells = on_entry (IsShort kind.Opened) (opened_objects n) (entry_of n.buffer v.groups) (λ e at. let kept = entry_kept limit v n e is at in opened_size (id_of kind.Opened) n e (omega arith) tells kept.fit kept.names)
+objects_short limit v kind.Moved n most is tells = placed_size (id_of kind.Moved) n (omega arith) tells
+objects_short limit v kind.Merged n most is tells = placed_size (id_of kind.Merged) n (omega arith) tells
+objects_short limit v kind.Unmerged n most is tells = placed_size (id_of kind.Unmerged) n (omega arith) tells
+objects_short limit v kind.Hidden n most is tells = placed_size (id_of kind.Hidden) n (omega arith) tells
+objects_short limit v kind.Unhidden n most is tells = placed_size (id_of kind.Unhidden) n (omega arith) tells
+objects_short limit v kind.Renamed n most is tells = on_entry (IsShort kind.Renamed) (renamed_objects n) (entry_of n.buffer v.groups) (λ e at. let kept = entry_kept limit v n e is at in renamed_size (id_of kind.Renamed) n e (omega arith) tells kept.fit kept.names)
+objects_short limit v kind.TitleChanged n most is tells = on_entry (IsShort kind.TitleChanged) (title_objects n) (entry_of n.buffer v.groups) (λ e at. let kept = entry_kept limit v n e is at in title_size (id_of kind.TitleChanged) n e (omega arith) tells kept.fit kept.names)
+objects_short limit v kind.VarAdded n most is tells = on_entry (IsShort kind.VarAdded) (vars_objects n) (entry_of n.buffer v.groups) (λ e at. let kept = entry_kept limit v n e is at in vars_size (id_of kind.VarAdded) n e (omega arith) tells kept.fit kept.names)
+objects_short limit v kind.VarChanged n most is tells = on_entry (IsShort kind.VarChanged) (vars_objects n) (entry_of n.buffer v.groups) (λ e at. let kept = entry_kept limit v n e is at in vars_size (id_of kind.VarChanged) n e (omega arith) tells kept.fit kept.names)
+objects_short limit v kind.VarRemoved n most is tells = on_entry (IsShort kind.VarRemoved) (vars_objects n) (entry_of n.buffer v.groups) (λ e at. let kept = entry_kept limit v n e is at in vars_size (id_of kind.VarRemoved) n e (omega arith) tells kept.fit kept.names)
+objects_short limit v kind.Cleared n most is tells = named_size (id_of kind.Cleared) n (omega arith) tells.buffer tells.short
+objects_short limit v kind.Closing n most is tells = named_size (id_of kind.Closing) n (omega arith) tells.buffer tells.short
+objects_short limit v kind.LineAdded n most is tells =
     on_newest (IsShort kind.LineAdded) n.buffer (lines_at v n.buffer.0) (recursion_from_All IsPrinted (lines_at v n.buffer.0) (is.printed n.buffer.0))
     (λ line printed. added_size (id_of kind.LineAdded) n.buffer line (omega arith) tells.buffer printed)
-objects_short limit v kind.LineDataChanged n is tells = tt
-objects_short limit v kind.Nicklist n is tells = tt
-objects_short limit v kind.NicklistDiff n is tells = tt
-objects_short limit v kind.NickTouched n is tells = tt
-objects_short limit v kind.LimitSet n is tells = tt
-objects_short limit v kind.LinesTrimmed n is tells = on_trims (IsShort kind.LinesTrimmed) n.trims tells.trims (λ trim told. trim_size (id_of kind.LinesTrimmed) trim (omega arith) told)
+objects_short limit v kind.LineDataChanged n most is tells =
+    let lines = lines_at v n.buffer.0 in
+    let held = is.within n.buffer.0 in
+    on_flags (IsShort kind.LineDataChanged) n.buffer n.flips lines
+    (flags_size (id_of kind.LineDataChanged) n.buffer n.flips lines (omega arith) tells.buffer (omega arith) (recursion_from_All IsPrinted lines (is.printed n.buffer.0)))
+objects_short limit v kind.Nicklist n most is tells = tt
+objects_short limit v kind.NicklistDiff n most is tells = tt
+objects_short limit v kind.NickTouched n most is tells = tt
+objects_short limit v kind.LimitSet n most is tells = tt
+objects_short limit v kind.LinesTrimmed n most is tells = on_trims (IsShort kind.LinesTrimmed) n.trims tells.trims (λ trim told. trim_size (id_of kind.LinesTrimmed) trim (omega arith) told)
 
 -- a message that is short enough is sent
 pub whole_message : (m : WireMessage) → length (message_bytes m.id m.objects) ≤ 2 ^ 31 - 1 → fitting m ≡ m ∷ []
@@ -162,8 +176,8 @@ messages_of None = []
 messages_of (Some m) = m ∷ []
 
 -- no event is too long to be told
-pub event_whole : (limit : ℕ) (v : World) (n : Notice) → IsWorldKept limit v → IsTelling n → event_messages v n ≡ messages_of (event_of v n)
-event_whole limit v n is tells = by (event_objects v n) (objects_short limit v n.kind n is tells) where
+pub event_whole : (limit : ℕ) (v : World) (n : Notice) → limit ≤ 4096 → IsWorldKept limit v → IsTelling n → event_messages v n ≡ messages_of (event_of v n)
+event_whole limit v n most is tells = by (event_objects v n) (objects_short limit v n.kind n most is tells) where
   message_of : List Object → WireMessage
   message_of objects = record { id = id_of n.kind; objects = objects }
 

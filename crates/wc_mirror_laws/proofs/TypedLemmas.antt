@@ -20,14 +20,15 @@ use Rattle.wc_model.specs.declared.change.What.TheVariants as what
 use Rattle.wc_model.specs.World.{World}
 use Rattle.wc_text.specs.Splits.{onward, text_after, word_of, rest_of}
 use Rattle.wc_relaycmd.proofs.Utf8Lemmas.{cut_text, put_byte, before_text, past_text}
-use Rattle.wc_core.specs.Resolved.{Effect, Stays, Ends, Tells, Asks, SetsOption, UnsetsOption, SavesOptions, switched, buffer_meant, of_meant, of_named, change_of, line_spec, plugin_in, effect_of}
-use Rattle.wc_core.specs.Typed.{TypedCommand, Nothing, Quits, Refused, Others, Prints, Adds, Closes, Merges, Names, Changes, Sets, Unsets, Switches, Saves, save_command, switch_command, input_command, set_option, set_command, unset_command, option_command, unknown_command, wrong_arguments, lines_parted, lines_of_text, print_unless_empty, print_words, tags_of, is_first, second_of, after_second, print_tagged, print_on, print_command, wrong_buffer, one_word, without_words, some_text, moves_to, close_command, starts, set_property, buffer_word, buffer_command, quit_command, command, slash_command, typed_line, Evaluates, eval_text, eval_printed, eval_command}
+use Rattle.wc_core.specs.Resolved.{Effect, Stays, Ends, Tells, Asks, SetsOption, UnsetsOption, SavesOptions, ChangesHotlist, switched, buffer_meant, of_meant, of_named, change_of, line_spec, plugin_in, effect_of}
+use Rattle.wc_core.specs.Typed.{TypedCommand, Nothing, Quits, Refused, Others, Prints, Adds, Closes, Merges, Names, Changes, Sets, Unsets, Switches, Saves, UsesHotlist, save_command, switch_command, input_command, hotlist_value, hotlist_command, news_command, set_option, set_command, unset_command, option_command, unknown_command, wrong_arguments, lines_parted, lines_of_text, print_unless_empty, print_words, tags_of, is_first, second_of, after_second, print_tagged, print_on, print_command, wrong_buffer, one_word, without_words, some_text, moves_to, close_command, starts, set_property, buffer_word, buffer_command, quit_command, command, slash_command, typed_line, Evaluates, eval_text, eval_printed, eval_command}
 use Rattle.wc_mirror_laws.specs.Worlds.{IsBufferKept, IsWorldKept}
 use Rattle.wc_mirror_laws.proofs.ListLemmas.{all_filter}
 use Rattle.wc_mirror_laws.proofs.RowLemmas.{row_has}
 use Rattle.wc_mirror_laws.proofs.PrintLemmas.{level_fits}
 use Rattle.wc_mirror_laws.specs.Changes.{IsTold}
 use Rattle.wc_core.specs.declared.typed_eval.EvalUse.{EvalUse}
+use Rattle.wc_core.specs.declared.typed_hotlist.HotlistUse.TheVariants as hotlist
 use Rattle.wc_core.specs.declared.typed_eval.EvalUse.TheVariants as eval
 
 -- ---- parts of a text
@@ -112,6 +113,7 @@ IsTypedText (Sets name value) = Unit {0}
 IsTypedText (Unsets name) = Unit {0}
 IsTypedText (Switches name) = Unit {0}
 IsTypedText Saves = Unit {0}
+IsTypedText (UsesHotlist usage) = Unit {0}
 IsTypedText (Evaluates usage text) = IsUtf8 text
 
 if_text : (b : Bool) (x y : TypedCommand) → (b ≡ true → IsTypedText x) → IsTypedText y → IsTypedText (cond b x y)
@@ -175,12 +177,15 @@ variable_text word utf8 e =
     let whole = (starts_is Decides-eqb word (codes "localvar_set_") (starts (codes "localvar_set_") word) refl).0 e in
     (cut_text (codes "localvar_set") 95 (drop 13 word) (lit< tt) (subst IsUtf8 whole utf8)).1
 
+hotlist_value_text : (value : List ℕ) → IsTypedText (hotlist_value value)
+hotlist_value_text value = if_text (bytes_eq value (codes "-1")) (UsesHotlist hotlist.Remove) Nothing (λ here. tt) tt
+
 property_text : (word text : List ℕ) → IsUtf8 word → IsUtf8 text → IsTypedText (set_property word text)
 property_text word text named utf8 =
     let sets = some_text (λ value. Changes (what.SetVar (record { name = drop 13 word; value = value }))) text in
     let removes = without_words (Changes (what.RemoveVar (drop 13 word))) text in
     let variable = cond (starts (codes "localvar_set_") word) sets (cond (starts (codes "localvar_del_") word) removes wrong_buffer) in
-    let seen = some_text (λ value. Nothing) text in
+    let seen = some_text hotlist_value text in
     let others = cond (bytes_eq word (codes "hotlist")) seen variable in
     let titles = some_text (λ value. Changes (what.Title value)) text in
     let shortens = some_text (λ value. Changes (what.ShortName value)) text in
@@ -191,7 +196,7 @@ property_text word text named utf8 =
     (if_text (bytes_eq word (codes "title")) titles others
     (λ here. whole_text (λ value. Changes (what.Title value)) text utf8 (λ value u. tt))
     (if_text (bytes_eq word (codes "hotlist")) seen variable
-    (λ here. whole_text (λ value. Nothing) text utf8 (λ value u. tt))
+    (λ here. whole_text hotlist_value text utf8 (λ value u. hotlist_value_text value))
     (if_text (starts (codes "localvar_set_") word) sets (cond (starts (codes "localvar_del_") word) removes wrong_buffer)
     (λ here. whole_text (λ value. Changes (what.SetVar (record { name = drop 13 word; value = value }))) text utf8 (λ value u. variable_text word named here))
     (if_text (starts (codes "localvar_del_") word) removes wrong_buffer (λ here. bare_text (what.RemoveVar (drop 13 word)) text tt) tt)))))
@@ -249,8 +254,21 @@ option_text name rest =
 
 input_text : (text : List ℕ) → IsTypedText (input_command text)
 input_text text =
-    if_text (bytes_eq text (codes "set_unread_current_buffer")) Nothing (cond (bytes_eq text (codes "hotlist_clear")) Nothing (unknown_command (codes "input"))) (λ here. tt)
-    (if_text (bytes_eq text (codes "hotlist_clear")) Nothing (unknown_command (codes "input")) (λ here. tt) tt)
+    if_text (bytes_eq text (codes "set_unread_current_buffer")) Nothing (cond (bytes_eq text (codes "hotlist_clear")) (UsesHotlist hotlist.Clear) (unknown_command (codes "input"))) (λ here. tt)
+    (if_text (bytes_eq text (codes "hotlist_clear")) (UsesHotlist hotlist.Clear) (unknown_command (codes "input")) (λ here. tt) tt)
+
+hotlist_text : (text : List ℕ) → IsTypedText (hotlist_command text)
+hotlist_text text =
+    let removes = cond (bytes_eq text (codes "remove")) (UsesHotlist hotlist.Remove) (wrong_arguments (codes "hotlist")) in
+    if_text (bytes_eq text (codes "clear")) (UsesHotlist hotlist.Clear) removes (λ here. tt)
+    (if_text (bytes_eq text (codes "remove")) (UsesHotlist hotlist.Remove) (wrong_arguments (codes "hotlist")) (λ here. tt) tt)
+
+news_text : (name rest : List ℕ) → IsTypedText (news_command name rest)
+unfolding news_command
+news_text name rest =
+    let hotlists = cond (bytes_eq name (codes "hotlist")) (hotlist_command rest) (option_command name rest) in
+    if_text (bytes_eq name (codes "input")) (input_command rest) hotlists (λ here. input_text rest)
+    (if_text (bytes_eq name (codes "hotlist")) (hotlist_command rest) (option_command name rest) (λ here. hotlist_text rest) (option_text name rest))
 
 eval_use_text : (usage : EvalUse) (text : List ℕ) → IsUtf8 text → IsTypedText (eval_text usage text)
 eval_use_text usage [] utf8 = tt
@@ -266,15 +284,13 @@ eval_command_text text utf8 =
 
 command_text : (name rest : List ℕ) → IsUtf8 rest → IsTypedText (command name rest)
 command_text name rest utf8 =
-    let evals = cond (bytes_eq name (codes "eval")) (eval_command rest) (option_command name rest) in
-    let inputs = cond (bytes_eq name (codes "input")) (input_command rest) evals in
-    let quits = cond (bytes_eq name (codes "quit")) (quit_command rest) inputs in
+    let evals = cond (bytes_eq name (codes "eval")) (eval_command rest) (news_command name rest) in
+    let quits = cond (bytes_eq name (codes "quit")) (quit_command rest) evals in
     let buffers = cond (bytes_eq name (codes "buffer")) (buffer_command rest) quits in
     if_text (bytes_eq name (codes "print")) (print_command rest) buffers (λ here. print_text rest utf8)
     (if_text (bytes_eq name (codes "buffer")) (buffer_command rest) quits (λ here. words_text (word_of rest) (rest_of rest) (rest_text rest utf8))
-    (if_text (bytes_eq name (codes "quit")) (quit_command rest) inputs (λ here. quit_text rest)
-    (if_text (bytes_eq name (codes "input")) (input_command rest) evals (λ here. input_text rest)
-    (if_text (bytes_eq name (codes "eval")) (eval_command rest) (option_command name rest) (λ here. eval_command_text rest utf8) (option_text name rest)))))
+    (if_text (bytes_eq name (codes "quit")) (quit_command rest) evals (λ here. quit_text rest)
+    (if_text (bytes_eq name (codes "eval")) (eval_command rest) (news_command name rest) (λ here. eval_command_text rest utf8) (news_text name rest))))
 
 slashed_text : (text : List ℕ) → IsUtf8 text → IsTypedText (slash_command text)
 slashed_text [] utf8 = command_text [] [] utf8
@@ -299,6 +315,7 @@ OnAsks (Asks change) = IsTold change.what
 OnAsks (SetsOption name value) = Unit {0}
 OnAsks (UnsetsOption name) = Unit {0}
 OnAsks SavesOptions = Unit {0}
+OnAsks (ChangesHotlist usage buffer) = Unit {0}
 
 meant_told : (f : Handle → Change) (o : Option Handle) → ((h : Handle) → IsTold (f h).what) → OnAsks (of_meant f o)
 meant_told f None each = tt
@@ -344,10 +361,11 @@ resolved_told limit w moment buffer (Adds name) is text = (IsUtf8-append (codes 
 resolved_told limit w moment buffer (Closes name) is text = named_told w.groups buffer (λ b. change_of b what.Close) name (λ h. tt)
 resolved_told limit w moment buffer (Merges name) is text = meant_told (λ into. change_of buffer (what.MergeInto into)) (buffer_meant w.groups name) (λ h. tt)
 resolved_told limit w moment buffer (Names name) is text =
-    (IsUtf8-append (plugin_in (buffer_of buffer w.groups) ++ codes ".") name (IsUtf8-append (plugin_in (buffer_of buffer w.groups)) (codes ".") (front_text limit w buffer is) dot_text) text, refl)
+    IsUtf8-append (plugin_in (buffer_of buffer w.groups) ++ codes ".") name (IsUtf8-append (plugin_in (buffer_of buffer w.groups)) (codes ".") (front_text limit w buffer is) dot_text) text
 resolved_told limit w moment buffer (Changes c) is text = text
 resolved_told limit w moment buffer (Sets name value) is text = tt
 resolved_told limit w moment buffer (Unsets name) is text = tt
 resolved_told limit w moment buffer (Switches name) is text = switched_told (buffer_meant w.groups name)
 resolved_told limit w moment buffer Saves is text = tt
+resolved_told limit w moment buffer (UsesHotlist usage) is text = tt
 resolved_told limit w moment buffer (Evaluates usage value) is text = tt

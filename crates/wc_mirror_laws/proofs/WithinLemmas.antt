@@ -1,5 +1,5 @@
 -- The numbers of objects lie within their types.
-use Rattle.std.proofs.Common.{ℕ, ◌^◌, ◌<◌, List, [], ◌∷◌, Some, arith}
+use Rattle.std.proofs.Common.{ℕ, ◌^◌, ◌<◌, List, [], ◌∷◌, filter, Some, arith}
 use Rattle.std.specs.Prelude.{codes}
 use Rattle.std.specs.Int.{w8}
 use Rattle.std.specs.Int.RustNames.{FitsSigned}
@@ -13,17 +13,20 @@ use Rattle.wc_nickdiff.specs.declared.diff_item.Mark.TheVariants as mark
 use Rattle.wc_buffers.specs.declared.row.BufferEntry.{BufferEntry}
 use Rattle.wc_model.specs.declared.notice.Notice.{Notice}
 use Rattle.wc_model.specs.declared.notice.Trim.{Trim}
+use Rattle.wc_model.specs.Parts.{is_flipped}
 use Rattle.wc_objects.specs.declared.object.Object.{Object}
 use Rattle.wc_objects.specs.declared.object.Object.TheVariants as o
 use Rattle.wc_objects.specs.declared.object.Object.TheViews.{out-roll-Object, out-roll-Hda}
 use Rattle.wc_objects.specs.declared.object.Hda.{Hda, roll-Hda}
 use Rattle.wc_objects.specs.declared.object.HdaItem.{HdaItem, roll-HdaItem}
 use Rattle.wc_objects.specs.Within.{ValueWithin, ItemWithin, HdaWithin, ObjectWithin}
+use Rattle.wc_keys.specs.Events.{line_path}
 use Rattle.wc_events.specs.LineObjects.{truth, count, moment, line_keys, line_values, added_item, added_objects}
-use Rattle.wc_events.specs.BufferObjects.{about, opened_keys, opened_values, opened_objects, placed_keys, placed_values, placed_objects, renamed_keys, renamed_values, renamed_objects, title_keys, title_values, title_objects, vars_keys, vars_values, vars_objects, named_keys, named_values, named_objects, trim_keys, trim_values, trim_objects}
+use Rattle.wc_events.specs.BufferObjects.{about, opened_keys, opened_values, opened_objects, placed_keys, placed_values, placed_objects, renamed_keys, renamed_values, renamed_objects, title_keys, title_values, title_objects, vars_keys, vars_values, vars_objects, named_keys, named_values, named_objects, flag_keys, flag_item, flag_items, flag_objects, trim_keys, trim_values, trim_objects}
 use Rattle.wc_events.specs.NickObjects.{nick_path, nick_keys, nick_values, nick_item, mark_code, diff_item, nick_objects}
 use Rattle.wc_hdata.proofs.ValuesWithin.{moment_within, count_within, truth_within, flag_within, value_tim, value_chr, value_int, value_ptr, value_str, value_texts, value_table}
 use Rattle.wc_mirror_laws.specs.Printed.{IsPrinted}
+use Rattle.wc_mirror_laws.proofs.ListLemmas.{all_filter, all_map}
 use Rattle.wc_mirror_laws.proofs.NoticeLemmas.{IsTrimTold, IsTelling}
 
 -- ---- objects of items
@@ -82,9 +85,19 @@ added_within buffer line small is = ((is.content, tt), values_within buffer line
 pub event_within : (buffer : Handle) (line : Line) → buffer.0 < 2 ^ 64 → IsPrinted line → AllByRecursion ObjectWithin (added_objects buffer line)
 event_within buffer line small is = items_within (codes "line_data") line_keys (added_item buffer line ∷ []) (added_within buffer line small is, tt)
 
+-- lines whose flags differ
+flag_within_item : (buffer : Handle) (line : Line) → buffer.0 < 2 ^ 64 → IsPrinted line → ItemWithin (flag_item buffer line)
+unfolding ItemWithin
+flag_within_item buffer line small is = ((is.content, tt), (value_ptr buffer.0 small, (value_chr (truth line.displayed) (truth_within line.displayed), tt)))
+
+pub flags_within : (buffer : Handle) (flips : List Handle) (lines : List Line) → buffer.0 < 2 ^ 64 → AllByRecursion IsPrinted lines → AllByRecursion ObjectWithin (flag_objects buffer flips lines)
+flags_within buffer flips lines small all =
+    items_within line_path flag_keys (flag_items buffer flips lines)
+    (all_map IsPrinted ItemWithin (flag_item buffer) (filter (is_flipped flips) lines) (λ line printed. flag_within_item buffer line small printed) (all_filter IsPrinted (is_flipped flips) lines all))
+
 -- ---- buffers
 
-item_within : (buffer : ℕ) (values : List Object) → buffer < 2 ^ 64 → AllByRecursion ValueWithin values → ItemWithin (roll-HdaItem (record { pointers = buffer ∷ []; values = values }))
+pub item_within : (buffer : ℕ) (values : List Object) → buffer < 2 ^ 64 → AllByRecursion ValueWithin values → ItemWithin (roll-HdaItem (record { pointers = buffer ∷ []; values = values }))
 unfolding ItemWithin
 item_within buffer values small all = ((small, tt), all)
 

@@ -1,14 +1,14 @@
 -- What always holds of the world holds still after a change.
-use Rattle.std.proofs.Common.{◌≡◌, ℕ, ◌+◌, ◌-◌, ◌<◌, ◌≤◌, ◌^◌, Bool, true, false, cond, ◌&&◌, eqb, ltb, List, [], ◌∷◌, ◌++◌, length, map, All, Option, Some, None, option_map, unwrap_or, refl, sym, ap, subst, ◌∙◌, arith, drop, eq-eqb, eqb-true, IsUtf8, map-id}
+use Rattle.std.proofs.Common.{◌≡◌, ℕ, ◌+◌, ◌-◌, ◌<◌, ◌≤◌, ◌^◌, Bool, true, false, cond, ◌&&◌, eqb, ltb, List, [], ◌∷◌, ◌++◌, length, map, All, Option, Some, None, unwrap_or, refl, sym, ap, subst, ◌∙◌, arith, eq-eqb, eqb-true, IsUtf8}
 use Rattle.std.specs.Int.{w8}
 use Rattle.std.specs.Int.RustNames.{FitsSigned}
 use Rattle.std.specs.List.{AllByRecursion}
-use Rattle.std.specs.FinMap.{find as find_entry, get, insert, remove, empty, entries, get-insert, get-remove, get-empty, get-entries, get-from_entries}
+use Rattle.std.specs.FinMap.{get, insert, remove, empty, get-insert, get-remove, get-empty}
 use Rattle.std.specs.Ordering.{nat_cmp, eq_by_cmp}
 use Rattle.std.specs.Cmp.{nat_cmp_total}
 use Rattle.std.proofs.lemmas.Bool.{false≢true, or_parts}
 use Rattle.std.proofs.lemmas.Bool.Decides.{nat_tests}
-use Rattle.std.proofs.lemmas.List.{map-append, length-drop}
+use Rattle.std.proofs.lemmas.List.{map-append}
 use Rattle.std.proofs.lemmas.List.Elements.{All-nil, All-push, All-drop}
 use Rattle.std.proofs.lemmas.List.Folds.{list_any-append}
 use Rattle.wc_text.specs.declared.names.Handle.{Handle}
@@ -35,7 +35,7 @@ use Rattle.wc_buffers.proofs.RefusalLemmas.{there_good, move_good, merge_good, u
 use Rattle.wc_buffers.proofs.Fits.{or_none, opened_fits, hidden_fits, short_name_fits, title_fits, full_name_fits, var_fits, removed_fits, cut_short, cut_is_utf8}
 use Rattle.wc_world.proofs.GroupRows.{some_row, in_rows, has-move, has-merge, has-unmerge, has-update, has-take_out, merged_apart}
 use Rattle.wc_world.proofs.First.{core_text}
-use Rattle.wc_world.proofs.FlipsDone.{find_mapped}
+use Rattle.wc_world.proofs.FlipLemmas.{apart_more, apart_drop, apart_printed}
 use Rattle.wc_world.proofs.HeldLemmas.{tied}
 use Rattle.wc_world.proofs.NicksDone.{may_add, may_edit}
 use Rattle.wc_model.specs.declared.change.LineSpec.{LineSpec}
@@ -45,14 +45,16 @@ use Rattle.wc_model.specs.declared.refused.ChangeRefused.{ChangeRefused}
 use Rattle.wc_model.specs.declared.refused.ChangeRefused.TheVariants as refused
 use Rattle.wc_model.specs.World.{World, core_row, first_world, lines_at, printed_at, rows_at, row_count, row_limit, last_handle}
 use Rattle.wc_model.specs.LineCuts.{line_of}
-use Rattle.wc_model.specs.Apply.{refusal_of, after_of, of_buffers, or_else as or_refused, refusal_of_handles, with_groups, with_lines, flip_all, with_flips, row_of as new_row, adds_row, removes_row, changes_row, with_rows, item_with, with_row, without_row, handle_in, with_changed_row, with_limit}
+use Rattle.wc_model.specs.Apply.{refusal_of, after_of, of_buffers, or_else as or_refused, refusal_of_handles, with_groups, with_lines, row_of as new_row, adds_row, removes_row, changes_row, with_rows, item_with, with_row, without_row, handle_in, with_changed_row, with_limit}
 use Rattle.wc_model.specs.Touches.{told_after}
+use Rattle.wc_world.specs.Kept.{AreContentsApart}
 use Rattle.wc_board.specs.Told.{Told}
 use Rattle.wc_mirror_laws.specs.Changes.{IsTold}
 use Rattle.wc_mirror_laws.specs.Nicks.{AreRowsKept, AreListsKept}
 use Rattle.wc_mirror_laws.specs.Printed.{IsPrinted}
 use Rattle.wc_mirror_laws.specs.Worlds.{IsBufferKept, IsWorldKept}
 use Rattle.wc_mirror_laws.proofs.ListLemmas.{all_more}
+use Rattle.wc_mirror_laws.proofs.LineWorlds.{last_within, none_last, limited_at, flipped}
 use Rattle.wc_mirror_laws.proofs.HandleLemmas.{has_handles, times_handles, rows_handles, groups_taken, groups_moved, groups_merged, groups_unmerged, handles_updated}
 use Rattle.wc_mirror_laws.proofs.NickRows.{length-added, length-removed, rows_added, rows_removed, rows_changed}
 use Rattle.wc_mirror_laws.proofs.NickWorlds.{rows_few, lists_kept, lists_added, lists_closed, lists_put, count_added, count_closed, count_put, no_lists, none_counted}
@@ -91,6 +93,7 @@ regrouped limit w gs is groups each same = record {
   each = each;
   within = is.within;
   printed = is.printed;
+  apart = is.apart;
   none = λ h lacks. is.none h (sym (same h) ∙ lacks);
   nicks = lists_kept w.next w.next w.groups gs w.nicks (omega arith) same is.nicks;
   counted = is.counted;
@@ -139,38 +142,19 @@ removed_at w k q = ap (λ o. unwrap_or o []) (get-remove nat_cmp_total w.lines k
   by true = refl
   by false = refl
 
--- where no flag is set
-pub unflipped_at : (w : World) (q : ℕ) → lines_at (flip_all [] w) q ≡ lines_at w q
-unflipped_at w q =
-    ap (λ o. unwrap_or o [])
-    (get-from_entries nat_cmp_total (map (λ (e : ℕ × List Line). (e.0, with_flips [] e.1)) (entries w.lines)) q ∙ ap (find_entry nat_cmp q) (map-id (entries w.lines)) ∙ sym (get-entries w.lines q))
-
-unflipped : (limit : ℕ) (w : World) → IsWorldKept limit w → IsWorldKept limit (flip_all [] w)
-unflipped limit w is = record {
-  same = is.same;
-  started = is.started;
-  ended = is.ended;
-  groups = is.groups;
-  each = is.each;
-  within = λ q. subst (λ ls. length ls ≤ limit) (sym (unflipped_at w q)) (is.within q);
-  printed = λ q. subst (All IsPrinted) (sym (unflipped_at w q)) (is.printed q);
-  none = λ q lacks. unflipped_at w q ∙ is.none q lacks;
-  nicks = is.nicks;
-  counted = is.counted;
-}
-
 -- a world in which the lines of one buffer were changed
-relined : (limit : ℕ) (w v : World) (k : ℕ) (ms : List Line) → IsWorldKept limit w → v.limit ≡ w.limit → 0 < v.next → v.next ≤ 2 ^ 62 + 1
+relined : (limit : ℕ) (w v : World) (k : ℕ) (ms : List Line) → IsWorldKept limit w → v.limit ≡ w.limit → w.next ≤ v.next → v.next ≤ 2 ^ 62 + 1
     → AreGroups (handles v.groups) → AllByRecursion (IsBufferKept v.next) (rows v.groups) → ((q : ℕ) → lines_at v q ≡ cond (eqb q k) ms (lines_at w q))
-    → length ms ≤ limit → All IsPrinted ms → ((q : ℕ) → has handle_of q v.groups ≡ false → cond (eqb q k) ms (lines_at w q) ≡ []) → AreListsKept v.next v.groups v.nicks → row_count v ≤ row_limit → IsWorldKept limit v
-relined limit w v k ms is same started ended groups each lines few printed none nicks counted = record {
+    → length ms ≤ limit → All IsPrinted ms → AreContentsApart v.next ms → ((q : ℕ) → has handle_of q v.groups ≡ false → cond (eqb q k) ms (lines_at w q) ≡ []) → AreListsKept v.next v.groups v.nicks → row_count v ≤ row_limit → IsWorldKept limit v
+relined limit w v k ms is same more ended groups each lines few printed apart none nicks counted = record {
   same = same ∙ is.same;
-  started = started;
+  started = (let started = is.started in omega arith);
   ended = ended;
   groups = groups;
   each = each;
   within = λ q. subst (λ ls. length ls ≤ limit) (sym (lines q)) (short q (eqb q k));
   printed = λ q. subst (All IsPrinted) (sym (lines q)) (all q (eqb q k));
+  apart = λ q. subst (AreContentsApart v.next) (sym (lines q)) (differ q (eqb q k));
   none = λ q lacks. lines q ∙ none q lacks;
   nicks = nicks;
   counted = counted;
@@ -183,6 +167,10 @@ relined limit w v k ms is same started ended groups each lines few printed none 
     all : (q : ℕ) (b : Bool) → All IsPrinted (cond b ms (lines_at w q))
     all q true = printed
     all q false = is.printed q
+
+    differ : (q : ℕ) (b : Bool) → AreContentsApart v.next (cond b ms (lines_at w q))
+    differ q true = apart
+    differ q false = apart_more w.next v.next (lines_at w q) (omega arith) (is.apart q)
 
 grown : (n m : ℕ) → n ≤ m → (e : BufferEntry) → IsBufferKept n e → IsBufferKept m e
 grown n m le e is = record { fit = is.fit; names = is.names; some = is.some; below = (let b = is.below in omega arith); own = (let b = is.own in omega arith); mixed = (let b = is.mixed in omega arith) }
@@ -199,9 +187,6 @@ there_or_none w limit k ms is there q lacks = by (eqb q k) refl where
 
 -- ---- a printed line
 
-last_within : {X : Type 0} (n : ℕ) (xs : List X) → length (last_of n xs) ≤ n
-last_within n xs = omega (arith, length-drop (length xs - n) xs)
-
 print_kept : (limit : ℕ) (w : World) (h : Handle) (spec : LineSpec) → IsWorldKept limit w → is_there h w.groups ≡ true → w.next + 2 ≤ 2 ^ 62 + 1 → All IsUtf8 spec.tags → FitsSigned w8 spec.notify
     → IsWorldKept limit (record (with_lines w h (last_of w.limit (lines_at w h.0 ++ line_of (printed_at w h.0) w.next spec ∷ []))) { printed = insert w.printed h.0 (printed_at w h.0 + 1); next = w.next + 2 })
 print_kept limit w h spec is there room tags level =
@@ -212,22 +197,10 @@ print_kept limit w h spec is there room tags level =
     (put_at w h.0 ms)
     (subst (λ n. length ms ≤ n) is.same (last_within w.limit all))
     (All-drop IsPrinted (length all - w.limit) all (All-push IsPrinted (lines_at w h.0) (line_of (printed_at w h.0) w.next spec) (is.printed h.0) (line_printed (printed_at w h.0) w.next spec (omega arith) tags level)))
+    (apart_printed w.next (w.next + 2) w.limit (line_of (printed_at w h.0) w.next spec) (lines_at w h.0) (is.apart h.0) (omega arith) (omega arith))
     (there_or_none w limit h.0 ms is there) (lists_kept w.next (w.next + 2) w.groups w.groups w.nicks (omega arith) (λ q. refl) is.nicks) is.counted
 
 -- ---- another limit
-
-none_last : (limit : ℕ) → last_of limit no_line_list ≡ []
-none_last limit = let e : 0 - limit ≡ 0 = omega arith in ap (λ n. drop n no_line_list) e
-
-last_of_none : (o : Option (List Line)) (limit : ℕ) → unwrap_or (option_map (last_of limit) o) [] ≡ last_of limit (unwrap_or o [])
-last_of_none None limit = sym (none_last limit)
-last_of_none (Some lines) limit = refl
-
-pub limited_at : (limit : ℕ) (w : World) (q : ℕ) → lines_at (with_limit limit w) q ≡ last_of limit (lines_at w q)
-limited_at limit w q =
-    ap (λ o. unwrap_or o [])
-    (get-from_entries nat_cmp_total (map (λ (e : ℕ × List Line). (e.0, last_of limit e.1)) (entries w.lines)) q ∙ find_mapped (last_of limit) q (entries w.lines) ∙ ap (option_map (last_of limit)) (sym (get-entries w.lines q)))
-    ∙ last_of_none (get w.lines q) limit
 
 limit_kept : (old limit : ℕ) (w : World) → IsWorldKept old w → IsWorldKept limit (with_limit limit w)
 limit_kept old limit w is = record {
@@ -238,6 +211,7 @@ limit_kept old limit w is = record {
   each = is.each;
   within = λ q. subst (λ ls. length ls ≤ limit) (sym (limited_at limit w q)) (last_within limit (lines_at w q));
   printed = λ q. subst (All IsPrinted) (sym (limited_at limit w q)) (All-drop IsPrinted (length (lines_at w q) - limit) (lines_at w q) (is.printed q));
+  apart = λ q. subst (AreContentsApart w.next) (sym (limited_at limit w q)) (apart_drop w.next (length (lines_at w q) - limit) (lines_at w q) (is.apart q));
   none = λ q lacks. limited_at limit w q ∙ ap (last_of limit) (is.none q lacks) ∙ none_last limit;
   nicks = is.nicks;
   counted = is.counted;
@@ -266,7 +240,7 @@ add_kept limit w spec is good room told =
     relined limit w (record w { groups = with_buffer row spec.vars w.groups; lines = insert w.lines w.next []; printed = insert w.printed w.next 0; nicks = insert w.nicks w.next []; next = w.next + 4 }) w.next [] is refl (omega arith) room
     (subst AreGroups (sym (map-append (map (λ (e : BufferEntry). e.row.handle)) w.groups ((e ∷ []) ∷ []))) (added_are row.handle (handles w.groups) is.groups absent (subst (λ n. n < 256) (sym (rows_handles w.groups)) names.2)))
     (added_rows (IsBufferKept (w.next + 4)) handle_of e w.groups new (all_grown w.next (w.next + 4) (omega arith) w.groups is.each))
-    (put_at w w.next []) (omega arith) (All-nil IsPrinted)
+    (put_at w w.next []) (omega arith) (All-nil IsPrinted) tt
     (λ q lacks. by q (eqb q w.next) (or_parts (has handle_of q w.groups) (has handle_of q ((e ∷ []) ∷ [])) (sym (list_any-append (in_group handle_of q) w.groups ((e ∷ []) ∷ [])) ∙ lacks)).0)
     (lists_added w.next w.next w.groups e w.nicks refl is.nicks) (count_added w.nicks w.next row_limit is.counted)
   where
@@ -276,9 +250,9 @@ add_kept limit w spec is good room told =
 
 close_kept : (limit : ℕ) (w : World) (h : Handle) → IsWorldKept limit w → IsWorldKept limit (record w { groups = without_buffer h w.groups; lines = remove w.lines h.0; printed = remove w.printed h.0; nicks = remove w.nicks h.0 })
 close_kept limit w h is =
-    relined limit w (record w { groups = without_buffer h w.groups; lines = remove w.lines h.0; printed = remove w.printed h.0; nicks = remove w.nicks h.0 }) h.0 [] is refl is.started is.ended
+    relined limit w (record w { groups = without_buffer h w.groups; lines = remove w.lines h.0; printed = remove w.printed h.0; nicks = remove w.nicks h.0 }) h.0 [] is refl (omega arith) is.ended
     (groups_taken h.0 w.groups is.groups) (taken_rows (IsBufferKept w.next) handle_of h.0 w.groups is.each)
-    (removed_at w h.0) (omega arith) (All-nil IsPrinted) gone
+    (removed_at w h.0) (omega arith) (All-nil IsPrinted) tt gone
     (lists_closed w.next h w.groups w.nicks is.nicks) (count_closed w.nicks h.0 row_limit is.counted)
   where
     by : (q : ℕ) (b : Bool) → eqb h.0 q ≡ b → has handle_of q (without_buffer h w.groups) ≡ false → cond b [] (lines_at w q) ≡ []
@@ -301,6 +275,7 @@ nicked limit w h rows next is there le ended new few = record {
   each = all_grown w.next next le w.groups is.each;
   within = is.within;
   printed = is.printed;
+  apart = λ q. apart_more w.next next (lines_at w q) (omega arith) (is.apart q);
   none = is.none;
   nicks = lists_put w.next next h.0 w.groups rows w.nicks le (there_good h w.groups there) new is.nicks;
   counted = count_put w.nicks h.0 row_limit rows few;
@@ -361,7 +336,7 @@ after_kept limit w h Unhide is told good = rewritten limit w h (with_hidden fals
 after_kept limit w h (Rename name flips) is told good =
     let g = rename_good h name w.groups (accepted _ (both_accepted _ _ good).0) in
     let v = with_groups w (with_entry h (with_full_name name) w.groups) in
-    subst (λ flips. IsWorldKept limit (flip_all flips v)) (sym told.1) (unflipped limit v (rewritten limit w h (with_full_name name) is g.0 (λ x. refl) (λ x. refl) (λ x. refl) (λ e at fit. full_name_fits name e g.1 told.0 fit) (λ e short. short_fixed name e.vars short)))
+    flipped limit v flips (rewritten limit w h (with_full_name name) is g.0 (λ x. refl) (λ x. refl) (λ x. refl) (λ e at fit. full_name_fits name e g.1 told fit) (λ e short. short_fixed name e.vars short))
 after_kept limit w h (ShortName name) is told good =
     let g = short_name_good h name w.groups (accepted _ good) in
     rewritten limit w h (with_short_name name) is g.0 (λ x. refl) (λ x. refl) (λ x. refl) (λ e at fit. short_name_fits name e g.1 told fit) (λ e short. short)
@@ -379,9 +354,9 @@ after_kept limit w h (Print line) is told good =
     let both = both_accepted _ _ good in
     print_kept limit w h line is (there_good h w.groups (accepted _ both.0)) (unspent 2 w both.1) told.0 told.1
 after_kept limit w h Clear is told good =
-    relined limit w (with_lines w h []) h.0 [] is refl is.started is.ended is.groups is.each (put_at w h.0 []) (omega arith) (All-nil IsPrinted)
+    relined limit w (with_lines w h []) h.0 [] is refl (omega arith) is.ended is.groups is.each (put_at w h.0 []) (omega arith) (All-nil IsPrinted) tt
     (there_or_none w limit h.0 [] is (there_good h w.groups (accepted _ good))) is.nicks is.counted
-after_kept limit w h (Flips flips) is told good = absurd told
+after_kept limit w h (Flips flips) is told good = flipped limit w flips is
 after_kept limit w h (AddGroup parent item) is told good = row_added limit w h true parent item is told good
 after_kept limit w h (AddNick group item) is told good = row_added limit w h false group item is told good
 after_kept limit w h (RemoveGroup name) is told good = row_removed limit w h true name is good
@@ -422,7 +397,7 @@ told_kept limit w h (SetVar var) lists is told good kept = entry_kept w h (with_
 told_kept limit w h (RemoveVar name) lists is told good kept = entry_kept w h (without_var name) lists (λ x. refl) kept
 told_kept limit w h (Print line) lists is told good kept = lists_kept w.next (w.next + 2) w.groups w.groups lists (omega arith) (λ q. refl) kept
 told_kept limit w h Clear lists is told good kept = kept
-told_kept limit w h (Flips flips) lists is told good kept = absurd told
+told_kept limit w h (Flips flips) lists is told good kept = kept
 told_kept limit w h (AddGroup parent item) lists is told good kept = lists_kept w.next (w.next + 1) w.groups w.groups lists (omega arith) (λ q. refl) kept
 told_kept limit w h (AddNick group item) lists is told good kept = lists_kept w.next (w.next + 1) w.groups w.groups lists (omega arith) (λ q. refl) kept
 told_kept limit w h (RemoveGroup name) lists is told good kept = kept
@@ -463,6 +438,7 @@ first_kept limit =
       each = (record { fit = fits; names = opened_short core_row [] core_names; some = omega arith; below = omega arith; own = omega arith; mixed = omega arith }, tt);
       within = λ q. subst (λ ls. length ls ≤ limit) (sym (no_lines limit q)) (omega arith);
       printed = λ q. subst (All IsPrinted) (sym (no_lines limit q)) (All-nil IsPrinted);
+      apart = λ q. subst (AreContentsApart 5) (sym (no_lines limit q)) tt;
       none = λ q lacks. no_lines limit q;
       nicks = first_lists;
       counted = count_added empty 1 row_limit (let none = none_counted in omega arith);

@@ -1,8 +1,9 @@
 -- What always holds of the core, as far as its lines are told.
-use Rattle.std.specs.Prelude.{◌≡◌, ℕ, ◌≤◌, Bool, true, false, not, ◌&&◌, ◌||◌, ◌==◌}
+use Rattle.std.specs.Prelude.{◌≡◌, ℕ, ◌≤◌, ◌<◌, ◌^◌, Bool, true, false, not, ◌&&◌, ◌||◌, ◌==◌}
 use Rattle.std.specs.Prelude.{if◌then◌else◌, List, [], ◌∷◌}
 use Rattle.std.specs.List.{AllByRecursion}
 use Rattle.std.specs.Str.{IsUtf8}
+use Rattle.wc_hotlist.specs.declared.row.HotRow.{HotRow}
 use Rattle.wc_session.specs.declared.client.Client.{Client}
 use Rattle.wc_session.specs.declared.sync_set.BufferSet.{BufferSet}
 use Rattle.wc_session.specs.declared.sync_set.SyncSet.{SyncSet}
@@ -34,6 +35,10 @@ is_first_alone link [] = true
 is_first_alone link (client ∷ clients) = if client_link client == link then is_quiet link clients
     else is_first_alone link clients
 
+-- a message can name the buffer of each row
+abbrev pub AreSmall : List HotRow → Type 0
+AreSmall rows = AllByRecursion (λ (row : HotRow). row.buffer.0 < 2 ^ 64) rows
+
 pub record IsStateKept (link : ℕ) (state : State) : Type 0 where
   pub most : state.world.limit ≤ 4096
   pub world : IsWorldKept state.world.limit state.world
@@ -41,4 +46,5 @@ pub record IsStateKept (link : ℕ) (state : State) : Type 0 where
   pub told : AreListsKept state.world.next state.world.groups state.told
   -- the commands of the start are text
   pub texts : AllByRecursion IsUtf8 state.commands
+  pub rows : AreSmall state.hotlist
   pub first : is_first_alone link state.clients ≡ true

@@ -9,6 +9,7 @@ use Rattle.wc_model.specs.Apply.{refusal}
 use Rattle.wc_objects.specs.declared.object.WireMessage.{WireMessage}
 use Rattle.wc_events.specs.NickObjects.{push_message, nick_dump}
 use Rattle.wc_session.specs.Sending.{fits}
+use Rattle.wc_view.specs.Views.{Suits}
 use Rattle.wc_text.specs.Splits.{BeginsWithout}
 use Rattle.wc_options.specs.Options.{OptionsValue}
 use Rattle.wc_core.specs.Events.{Event, Line, Tick}
@@ -17,7 +18,7 @@ use Rattle.wc_core.specs.Step.{change_step, push_at, push_step, step, run}
 use Rattle.wc_core.specs.Served.{messages_to}
 use Rattle.wc_mirror_laws.specs.Held.{HeldPart, HeldOf, nothing, fold_one, Has}
 use Rattle.wc_mirror_laws.specs.Settled.{AskedFor, asked_in, client_on, is_following, IsFair}
-use Rattle.wc_mirror_laws.specs.Settled.{TakesDump, SettledBy, IsPlain, IsLimited}
+use Rattle.wc_mirror_laws.specs.Settled.{TakesDump, SettledBy, IsPlain, IsLimited, LimitStays}
 use Rattle.wc_mirror_laws.specs.Changes.{IsTold}
 use Rattle.wc_mirror_laws.specs.Kept.{IsStateKept}
 use Rattle.wc_eval.specs.Verdicts.{Oracle}
@@ -60,7 +61,8 @@ Mirrors which = (limit : Option ℕ) (oracle : Oracle) (options : OptionsValue) 
     (run (beginning oracle options lines commands connects) events).state
 
 -- One event: a client that had the part, and that is open and follows all events afterwards, has it
--- still.
+-- still: with a mirror that keeps a limit where the event leaves the limit of the world, which may have
+-- been changed before.
 abbrev pub StepMirrors : HeldPart → Type 0
 StepMirrors which = (limit : Option ℕ) (link : ℕ) (id : List ℕ) (state : State) (event : Event)
     (part : HeldOf which)
@@ -68,18 +70,18 @@ StepMirrors which = (limit : Option ℕ) (link : ℕ) (id : List ℕ) (state : S
     AllByRecursion (IsFair which id) (asked_in link state event)
     → IsPlain limit (client_on link state)
     → is_following limit (client_on link (step state event).state) ≡ true
-    → IsLimited limit (step state event).state.world → Has which part state
+    → LimitStays limit state.world (step state event).state.world → Has which part state
     → Has which (mirror_after which limit link id part (step state event).acts)
     (step state event).state
 
--- The dump: a client has the part after it, whatever it had.
+-- The dump: a client has the part after it, whatever it had, with the same said of a limit.
 abbrev pub DumpMirrors : HeldPart → Type 0
 DumpMirrors which = (limit : Option ℕ) (link : ℕ) (id : List ℕ) (state : State) (event : Event)
     (part : HeldOf which) (dump : AskedFor)
     → IsStateKept link state → IsShortLine event → asked_in link state event ≡ dump ∷ [] →
     TakesDump which id dump → IsPlain limit (client_on link state)
     → is_following limit (client_on link (step state event).state) ≡ true
-    → IsLimited limit (step state event).state.world
+    → LimitStays limit state.world (step state event).state.world
     → Has which (mirror_after which limit link id part (step state event).acts)
     (step state event).state
 
@@ -102,14 +104,16 @@ ChangeKeeps = (link : ℕ) (state : State) (change : Change) → IsStateKept lin
     IsStateKept link (change_step state change).state
 
 -- A client that follows all events and had the part has it after the change: of a nicklist it keeps
--- the rows that were told.
+-- the rows that were told. Where its mirror keeps a limit this is that of the world before and after, as
+-- each change of another kind leaves it.
 abbrev pub ChangeMirrors : HeldPart → Type 0
 ChangeMirrors which = (limit : Option ℕ) (link : ℕ) (id : List ℕ) (state : State)
     (change : Change) (part : HeldOf which)
     → IsStateKept link state → BeginsWithout 95 id → IsTold change.what →
     refusal state.world change ≡ None → IsPlain limit (client_on link state)
     → is_following limit (client_on link state) ≡ true
-    → IsLimited limit (change_step state change).state.world → Has which part state
+    → Suits limit state.world → Suits limit (change_step state change).state.world
+    → Has which part state
     → Has which (mirror_after which limit link id part (change_step state change).acts)
     (change_step state change).state
 

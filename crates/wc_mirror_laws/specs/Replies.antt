@@ -2,7 +2,7 @@
 use Rattle.std.specs.Prelude.{◌≡◌, ℕ, ◌≤◌, Bool, true, false, ◌&&◌, ◌||◌, List, [], ◌∷◌, length}
 use Rattle.wc_model.specs.World.{World}
 use Rattle.wc_objects.specs.declared.object.WireMessage.{WireMessage}
-use Rattle.wc_options.specs.Options.{OptionsValue}
+use Rattle.wc_session.specs.RequestContext.{Context}
 use Rattle.wc_relaycmd.specs.declared.request.Command.{Command}
 use Rattle.wc_relaycmd.specs.declared.request.Command.TheVariants as ask
 use Rattle.wc_relaycmd.specs.declared.request.Request.{Request}
@@ -43,7 +43,7 @@ is_served client request = client.logged_in || is_open request.command
 -- Each request that is served and has a reply gets exactly one, and no other request gets any, where
 -- its id is one that a line can hold.
 abbrev pub GetsOneReply : Type 0
-GetsOneReply = (world : World) (options : OptionsValue) (client : Client) (request : Request)
+GetsOneReply = (world : World) (context : Context) (client : Client) (request : Request)
     → length request.id ≤ 65536
     → IsOneIf (is_served client request && has_reply request.command)
-    (id_of_reply request.id request.command) (reply_of world options client request).messages
+    (id_of_reply request.id request.command) (reply_of world context client request).messages

@@ -1,9 +1,10 @@
 -- Which clients hold the lines of all buffers, the buffers, or the nicklists: those that settled by
 -- the dump of them.
-use Rattle.std.specs.Prelude.{◌≡◌, ℕ, Bool, true, false, ◌&&◌, ◌||◌, ◌==◌, if◌then◌else◌, List, []}
+use Rattle.std.specs.Prelude.{◌≡◌, ℕ, ◌<◌, Bool, true, false, ◌&&◌, ◌||◌, ◌==◌, if◌then◌else◌, List, []}
 use Rattle.std.specs.Prelude.{◌∷◌, ◌++◌, Option, Some, None, bytes_eq, is_some}
 use Rattle.std.specs.List.{AllByRecursion, list_any}
 use Rattle.wc_outside.specs.Keyed.{at_key}
+use Rattle.wc_lines.specs.Ring.{counted}
 use Rattle.wc_relaycmd.specs.declared.request.Request.{Request}
 use Rattle.wc_relaycmd.specs.Answers.{request_of}
 use Rattle.wc_model.specs.World.{World}
@@ -79,6 +80,13 @@ StaysPlain limit link state (event ∷ events) = IsPlain limit (client_on link s
 abbrev pub IsLimited : Option ℕ → World → Type 0
 IsLimited None world = Unit {0}
 IsLimited (Some limit) world = (world.limit ≡ limit) × (world.limit_changes ≡ 0)
+
+-- In one step it is that of the world before, and the step does not change it: each change is counted, up
+-- to the greatest count, and afterwards there are fewer than one more would make.
+abbrev pub LimitStays : Option ℕ → World → World → Type 0
+LimitStays None old new = Unit {0}
+LimitStays (Some limit) old new = (old.limit ≡ limit)
+    × (new.limit_changes < counted old.limit_changes)
 
 abbrev pub has_id : List ℕ → AskedFor → Bool
 has_id id asked = bytes_eq asked.request.id id

@@ -8,6 +8,7 @@ use Rattle.wc_buffers.specs.Groups.{rows, has}
 use Rattle.wc_buffers.specs.Kept.{IsBuffer, handles}
 use Rattle.wc_buffers.specs.Table.{AreGroups}
 use Rattle.wc_model.specs.World.{World, lines_at, row_count, row_limit}
+use Rattle.wc_world.specs.Kept.{AreContentsApart}
 use Rattle.wc_mirror_laws.specs.Nicks.{AreListsKept}
 use Rattle.wc_mirror_laws.specs.Printed.{IsPrinted}
 
@@ -33,6 +34,8 @@ pub record IsWorldKept (limit : ℕ) (world : World) : Type 0 where
   pub each : AllByRecursion (IsBufferKept world.next) (rows world.groups)
   pub within : (h : ℕ) → length (lines_at world h) ≤ limit
   pub printed : (h : ℕ) → All IsPrinted (lines_at world h)
+  -- no two lines of a buffer have one content, and each was drawn
+  pub apart : (h : ℕ) → AreContentsApart world.next (lines_at world h)
   -- a buffer that is not there has no lines
   pub none : (h : ℕ) → has handle_of h world.groups ≡ false → lines_at world h ≡ []
   -- so have the nicklists of all buffers together

@@ -1,6 +1,7 @@
 //! What each client that settled holds: in one form with a mirror that keeps no limit of lines of its
 //! own, of a client that asked for the events of lines that went, and in the other with one that keeps
-//! the limit of the world, which was never changed, of a client that never asked for them.
+//! the limit of the world, of a client that did not ask for them. In the second form that limit was never
+//! changed up to the end of a run, and in one step it is not changed by this step.
 
 ghost use Rattle.wc_mirror_laws.specs.Bytes.{BuffersShow, BytesShow, NicksShow, RunSpells};
 ghost use Rattle.wc_mirror_laws.specs.Bytes.{SpellOnce};
@@ -50,8 +51,9 @@ pub fn sent_bytes_show_nicks()
     ensures { NicksShow }
 {}
 
-/// A client that has the lines of all buffers has them still after one event, another limit of lines
-/// too, and one that takes the dump has them after it.
+/// A client that has the lines of all buffers has them still after one event, and one that takes the
+/// dump has them after it: without a limit of its own whatever limit of lines was set, and with that of
+/// the world before where the event does not set it.
 pub fn event_keeps_lines()
     ensures kept { StepMirrors Lines }
     ensures dump { DumpMirrors Lines }
@@ -79,8 +81,8 @@ pub fn core_keeps()
     ensures push { PushKeeps }
 {}
 
-/// A client that has a part has it still after any change that is told, of a nicklist and of the limit
-/// of lines too.
+/// A client that has a part has it still after any change that is told, of flags of lines, of a
+/// nicklist and of the limit of lines too; a limit of its own is that of the world before and after.
 pub fn change_keeps_parts()
     ensures lines { ChangeMirrors Lines }
     ensures buffers { ChangeMirrors Buffers }

@@ -23,10 +23,11 @@ use Rattle.wc_session.specs.declared.outcome.Outcome.TheVariants as outcome
 use Rattle.wc_session.specs.Handshakes.{choice_in, algorithm_for}
 use Rattle.wc_session.specs.Logins.{pairs_let_in}
 use Rattle.wc_session.specs.Names.{buffer_named}
-use Rattle.wc_options.specs.Options.{OptionsValue}
+use Rattle.wc_session.specs.RequestContext.{Context}
 use Rattle.wc_session.specs.Heeded.{password_of, masks_of}
 use Rattle.wc_session.specs.Reply.{Answer, silent, replies, leaves as drops, typed_into, shaken, handshake_reply, handshake_answer, init_answer, is_open, served, reply_of}
 use Rattle.wc_core.specs.Events.{Event, Start, Tick, Arrives, Line as LineCame, Stands, Ends, Fails, Breaks, ListenFails}
+use Rattle.wc_core.specs.Contexts.{context_of}
 use Rattle.wc_core.specs.ServerSteps.{server_line_step, server_loss_step, stands_step}
 use Rattle.wc_core.specs.ServersKept.{Parting, parts_in}
 use Rattle.wc_servers.specs.Outs.{SendsLine, Connects, Parts, or_else as or_other, part_of}
@@ -152,8 +153,8 @@ asked-one state client (Some request) = by (client.logged_in && is_nicklist requ
   following = (push_step state).state
 
   by : (b : Bool) → StepsOne link (cond b (then_does (push_step state) (λ next. answered next client request)) (answered state client request))
-  by true = front-one link (push_step state).acts (answered following client request) _ (λ k. pushes-closes k state) (answers-one link following (reply_of following.world following.options client request))
-  by false = answers-one link state (reply_of state.world state.options client request)
+  by true = front-one link (push_step state).acts (answered following client request) _ (λ k. pushes-closes k state) (answers-one link following (reply_of following.world (context_of following) client request))
+  by false = answers-one link state (reply_of state.world (context_of state) client request)
 
 found-key : (link : ℕ) (clients : List Client) (client : Client) → at_key client_link link clients ≡ Some client → client_link client ≡ link
 found-key link [] client e = absurd (let q : None ≡ Some client = e in cc)
@@ -385,26 +386,26 @@ can-type : (client : Client) (text : List ℕ) (buffer : Option Handle) → CanL
 can-type client text None = tt
 can-type client text (Some buffer) = tt
 
-can-served : (world : World) (options : OptionsValue) (client : Client) (id : List ℕ) (command : Command) → CanLeave (served world options client id command).outcome
+can-served : (world : World) (context : Context) (client : Client) (id : List ℕ) (command : Command) → CanLeave (served world context client id command).outcome
 unfolding served
-can-served world options client id (ask.Handshake pairs) = can-handshake (masks_of options) client id pairs
-can-served world options client id (ask.Init pairs) = can-init (masks_of options) (password_of options) client pairs
-can-served world options client id (ask.Hdata path keys) = can-reply client _
-can-served world options client id (ask.Info name) = can-reply client _
-can-served world options client id (ask.Infolist name argument) = can-reply client _
-can-served world options client id (ask.Nicklist buffer) = can-reply client _
-can-served world options client id (ask.Input buffer text) = can-type client text (buffer_named world.groups buffer)
-can-served world options client id (ask.Completion buffer position text) = can-reply client _
-can-served world options client id (ask.Sync buffers asked) = tt
-can-served world options client id (ask.Desync buffers asked) = tt
-can-served world options client id ask.Test = can-reply client _
-can-served world options client id (ask.Ping text) = can-reply client _
-can-served world options client id ask.Quit = inr refl
+can-served world context client id (ask.Handshake pairs) = can-handshake (masks_of context.options) client id pairs
+can-served world context client id (ask.Init pairs) = can-init (masks_of context.options) (password_of context.options) client pairs
+can-served world context client id (ask.Hdata path keys) = can-reply client _
+can-served world context client id (ask.Info name) = can-reply client _
+can-served world context client id (ask.Infolist name argument) = can-reply client _
+can-served world context client id (ask.Nicklist buffer) = can-reply client _
+can-served world context client id (ask.Input buffer text) = can-type client text (buffer_named world.groups buffer)
+can-served world context client id (ask.Completion buffer position text) = can-reply client _
+can-served world context client id (ask.Sync buffers asked) = tt
+can-served world context client id (ask.Desync buffers asked) = tt
+can-served world context client id ask.Test = can-reply client _
+can-served world context client id (ask.Ping text) = can-reply client _
+can-served world context client id ask.Quit = inr refl
 
-can-answer : (world : World) (options : OptionsValue) (client : Client) (request : Request) → CanLeave (reply_of world options client request).outcome
+can-answer : (world : World) (context : Context) (client : Client) (request : Request) → CanLeave (reply_of world context client request).outcome
 unfolding reply_of
-can-answer world options client request =
-    can-if (client.logged_in || is_open request.command) (served world options client request.id request.command) (drops client LoginFailed) (can-served world options client request.id request.command) (inl refl)
+can-answer world context client request =
+    can-if (client.logged_in || is_open request.command) (served world context client request.id request.command) (drops client LoginFailed) (can-served world context client request.id request.command) (inl refl)
 
 follows-cause : (link : ℕ) (state : State) (o : Outcome) → CanLeave o → LineCause (close_of link (outcome_step state link o).acts)
 follows-cause link state outcome.Replied h = tt
@@ -427,7 +428,7 @@ asked-cause state client (Some request) = by (client.logged_in && is_nicklist re
   link = client_link client
 
   replied : (at : State) → LineCause (close_of link (answered at client request).acts)
-  replied at = answers-cause link at (reply_of at.world at.options client request) (can-answer at.world at.options client request)
+  replied at = answers-cause link at (reply_of at.world (context_of at) client request) (can-answer at.world (context_of at) client request)
 
   following : Stepped
   following = answered (push_step state).state client request

@@ -1,21 +1,18 @@
 //! The clients, and what they are told of the world's changes.
 
-ghost use Rattle.std.specs.Prelude.{◌≡◌, true};
 ghost use Rattle.std.specs.Str.{IsUtf8};
 ghost use Rattle.wc_events.specs.NickForms.{IsPushText};
-ghost use Rattle.wc_objects.specs.Forms.{well_formed};
 
 use crate::clients::{Client, place_of};
 use crate::diffs::show_push;
+use crate::mirrors::show_other;
 use crate::sheet::Sheet;
 use bytes::BytesMut;
 use std::alloc::Global;
 use wc_change_words::{Wrong, number};
-use wc_events::{event_id, flag_objects};
-use wc_lines::Lines;
-use wc_model::{EventKind, Notice, Trim};
+use wc_events::{FlipLookup, has_flips};
+use wc_model::{Notice, Trim};
 use wc_nickdiff::{Pending, Push};
-use wc_objects::{Object, append_message};
 use wc_session::BufferEvent;
 use wc_text::{Handle, Items, NoMemory};
 use wc_world::World;
@@ -62,6 +59,16 @@ impl Audience {
         }
     }
 
+    /// Shows each mirror that does not have all that the world has, and answers how many these are.
+    pub fn compare(&self, out: &mut Sheet, world: &World) -> u64 {
+        let mut otherwise = 0u64;
+        for client in self.clients.as_slice() {
+            let has_all = show_other(self.alloc, out, world, &client.screen);
+            otherwise = otherwise.saturating_add(u64::from(!has_all));
+        }
+        otherwise
+    }
+
     fn tell(&mut self, out: &mut Sheet, event: &BufferEvent) {
         let alloc = self.alloc;
         out.note(self.told.extend_from_slice(event.as_slice()));
@@ -105,8 +112,9 @@ impl Audience {
 
     /// Tells the flags of lines that differ, buffer by buffer.
     fn tell_flips(&mut self, out: &mut Sheet, world: &World, flips: &Items<Handle>) {
+        let flips = FlipLookup::new(self.alloc, flips);
         for group in world.buffers().groups() {
-            self.tell_flips_in(out, world, flips, group);
+            self.tell_flips_in(out, world, &flips, group);
         }
     }
 
@@ -114,12 +122,12 @@ impl Audience {
         &mut self,
         out: &mut Sheet,
         world: &World,
-        flips: &Items<Handle>,
+        flips: &FlipLookup<'_>,
         group: &[Handle],
     ) {
         for buffer in group {
-            if let Some(lines) = world.lines(*buffer) {
-                self.tell_flips_of(out, *buffer, flips, lines);
+            if has_flips(world, flips, *buffer) {
+                self.tell_flips_of(out, world, flips, *buffer);
             }
         }
     }
@@ -127,38 +135,13 @@ impl Audience {
     fn tell_flips_of(
         &mut self,
         out: &mut Sheet,
+        world: &World,
+        flips: &FlipLookup<'_>,
         buffer: Handle,
-        flips: &Items<Handle>,
-        lines: &Lines,
     ) {
-        match flag_objects(self.alloc, buffer, flips, lines) {
-            Ok(objects) => self.tell_flags(out, buffer, objects.as_slice()),
+        match BufferEvent::of_flags(self.alloc, world, buffer, flips) {
+            Ok(event) => self.tell(out, &event),
             Err(NoMemory) => out.lack(),
-        }
-    }
-
-    /// Tells the event of flags, if there are some. Sessions do not spell it.
-    fn tell_flags(&mut self, out: &mut Sheet, buffer: Handle, objects: &[Object])
-        requires { well_formed objects.now ≡ true }
-    {
-        if !has_items(objects) {
-            return;
-        }
-        let mut bytes = BytesMut::new(self.alloc);
-        let id = event_id(EventKind::LineDataChanged);
-        match append_message(&mut bytes, id, objects) {
-            Ok(()) => self.tell_bytes(out, buffer, bytes.as_slice()),
-            Err(_) => out.lack(),
-        }
-    }
-
-    fn tell_bytes(&mut self, out: &mut Sheet, buffer: Handle, bytes: &[u8]) {
-        let alloc = self.alloc;
-        out.note(self.told.extend_from_slice(bytes));
-        for client in self.clients.iter_mut() {
-            if client.session.follows(EventKind::LineDataChanged, buffer) {
-                client.screen.take(alloc, out, bytes);
-            }
         }
     }
 
@@ -223,12 +206,5 @@ fn show_push_of(alloc: Global, out: &mut Sheet, world: &World, pending: &Pending
     match pending.message_of(alloc, buffer, list) {
         Ok(push) => show_push(out, &push),
         Err(NoMemory) => out.lack(),
-    }
-}
-
-fn has_items(objects: &[Object]) -> bool {
-    match objects {
-        [Object::Hda(hda)] => !hda.items.as_slice().is_empty(),
-        _ => false,
     }
 }

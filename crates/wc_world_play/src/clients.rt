@@ -2,19 +2,16 @@
 
 ghost use Rattle.wc_relaycmd.specs.Utf8.{RequestIsUtf8};
 
+use crate::context::Context;
 use crate::sheet::Sheet;
 use bytes::BytesMut;
 use std::alloc::Global;
 use wc_change_words::Wrong;
-use wc_options::{Options, read_config};
 use wc_relaycmd::{Request, read_request};
 use wc_session::{BufferEvent, Outcome, Session};
 use wc_text::{Cause, LinkId, NoMemory, Text};
 use wc_view::Mirror;
 use wc_world::World;
-
-/// The options: the password that clients log in by.
-const CONFIGURATION: &[u8] = b"relay.network.password = x";
 
 /// A mirror, and the bytes that it was sent since they were last shown.
 #[derive(Drop)]
@@ -64,16 +61,16 @@ impl Screen {
 #[derive(Drop)]
 pub struct Client {
     pub session: Session,
-    options: Options,
+    pub context: Context,
     pub screen: Screen,
 }
 
 impl Client {
     /// A client that said nothing, whose mirror holds so many lines a buffer, or as many as it is told.
     pub fn new(alloc: Global, number: u64, limit: Option<u32>) -> Result<Client, NoMemory> {
-        match read_config(alloc, CONFIGURATION) {
-            Ok(options) => Client::with(alloc, LinkId(number), limit, options),
-            Err(_) => Err(NoMemory),
+        match Context::new(alloc) {
+            Ok(context) => Client::with(alloc, LinkId(number), limit, context),
+            Err(NoMemory) => Err(NoMemory),
         }
     }
 
@@ -81,10 +78,10 @@ impl Client {
         alloc: Global,
         link: LinkId,
         limit: Option<u32>,
-        options: Options,
+        context: Context,
     ) -> Result<Client, NoMemory> {
         match Session::new(alloc, link, *b"abcdbcdecdefdefg") {
-            Ok(session) => Client::of(alloc, limit, options, session),
+            Ok(session) => Client::of(alloc, limit, context, session),
             Err(NoMemory) => Err(NoMemory),
         }
     }
@@ -92,13 +89,13 @@ impl Client {
     fn of(
         alloc: Global,
         limit: Option<u32>,
-        options: Options,
+        context: Context,
         session: Session,
     ) -> Result<Client, NoMemory> {
         match Screen::new(alloc, limit) {
             Ok(screen) => Ok(Client {
                 session,
-                options,
+                context,
                 screen,
             }),
             Err(NoMemory) => Err(NoMemory),
@@ -143,7 +140,8 @@ impl Client {
     fn request(&mut self, alloc: Global, world: &World, request: Request) -> &'static str
         requires { RequestIsUtf8 request }
     {
-        let outcome = self.session.request(alloc, world, &self.options, request);
+        let context = self.context.lent();
+        let outcome = self.session.request(alloc, world, context, request);
         outcome_word(&outcome)
     }
 }

@@ -7,7 +7,7 @@ use crate::mirrors::show_mirror;
 use crate::parts::{part_of, show_of_buffers, show_of_list, show_part};
 use crate::sheet::Sheet;
 use crate::stage::Stage;
-use wc_change_words::{Wrong, handle, number};
+use wc_change_words::{Wrong, handle, number, small_number};
 
 /// How a client asks for all events, and one that is told which lines went.
 const SYNC: &str = "sync";
@@ -69,6 +69,8 @@ impl Stage {
     fn command(&mut self, out: &mut Sheet, words: &[&str]) -> Result<(), Wrong> {
         match words {
             ["limit", limit] => self.restart(limit),
+            ["random", steps, seed] => self.random(out, steps, seed, false),
+            ["random", steps, seed, "limits"] => self.random(out, steps, seed, true),
             ["full", words @ ..] => self.change_without_touch(out, words),
             ["watch", words @ ..] => self.watch(words),
             ["tick"] => self.tick(out),
@@ -85,6 +87,7 @@ impl Stage {
             ["join", client] => self.join(out, client),
             ["join", client, "trims"] => self.join_with_trims(out, client),
             ["sent", client] => self.show_sent(out, client),
+            ["hot", client, buffer, level] => self.count_line(client, buffer, level),
             ["mirror", client] => self.mirror(out, client),
             _ => self.ask(out, words),
         }
@@ -207,6 +210,15 @@ impl Stage {
         let client = self.audience.client(client)?;
         let answer = client.say(self.alloc, out, &self.world, line);
         out.put_line("", answer);
+        Ok(())
+    }
+
+    /// Counts a line of a buffer in the hotlist that a client is told.
+    fn count_line(&mut self, client: &str, buffer: &str, level: &str) -> Result<(), Wrong> {
+        let client = self.audience.client(client)?;
+        client
+            .context
+            .count_line(handle(buffer)?, small_number(level)?);
         Ok(())
     }
 

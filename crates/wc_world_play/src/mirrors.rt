@@ -67,3 +67,18 @@ pub fn show_mirror(alloc: Global, out: &mut Sheet, world: &World, screen: &Scree
     show_lines(alloc, out, world, &screen.mirror);
     show_nicks(alloc, out, world, &screen.mirror);
 }
+
+/// What is shown of a mirror that has all that the world has.
+const ALL_HELD: &str =
+    "buffers as in the world\nlines as in the world\nnicklists as in the world\n";
+
+/// Answers whether the mirror of a client has all that the world has, and shows it where it has not.
+pub fn show_other(alloc: Global, out: &mut Sheet, world: &World, screen: &Screen) -> bool {
+    let mut shown = Sheet::new(alloc);
+    show_mirror(alloc, &mut shown, world, screen);
+    let has_all = shown.read() == ALL_HELD;
+    if !has_all {
+        out.put(shown.read());
+    }
+    has_all
+}

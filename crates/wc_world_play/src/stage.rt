@@ -155,12 +155,17 @@ impl Stage {
         Ok(())
     }
 
-    /// Makes the change of a line in one turn of many. The answer takes the place of the last one.
-    fn turn(&mut self, last: &mut Sheet, line: &str, turn: u64) -> Result<bool, Wrong> {
-        let line = with_turn(self.alloc, line, turn)?;
+    /// Makes the change of a line. The answer takes the place of the last one.
+    pub fn change_by(&mut self, last: &mut Sheet, line: &str) -> Result<bool, Wrong> {
         let words: Vec<&str> = line.split_whitespace().collect(self.alloc)?;
         last.clear();
         self.change(last, words.as_slice())
+    }
+
+    /// Makes the change of a line in one turn of many.
+    fn turn(&mut self, last: &mut Sheet, line: &str, turn: u64) -> Result<bool, Wrong> {
+        let line = with_turn(self.alloc, line, turn)?;
+        self.change_by(last, line.as_str())
     }
 
     /// Makes many changes, and answers how many were accepted.

@@ -3,7 +3,7 @@ use Rattle.wc_mirror_laws.proofs.EventLemmas.{step_mirrors, dump_mirrors}
 use Rattle.wc_mirror_laws.proofs.laws.event_keeps_lines.Goals as goal
 
 pub returns-clause-kept : goal.returns-clause-kept
-returns-clause-kept c = λ limit link id state event part kept free within fair plain after limited had. step_mirrors Lines limit link id state event part kept free within fair plain after limited had
+returns-clause-kept c = λ limit link id state event part kept free within fair plain after stays had. step_mirrors Lines limit link id state event part kept free within fair plain after stays had
 
 pub returns-clause-dump : goal.returns-clause-dump
-returns-clause-dump c = λ limit link id state event part dump kept within asks takes plain after limited. dump_mirrors Lines limit link id state event part dump kept within asks takes plain after limited
+returns-clause-dump c = λ limit link id state event part dump kept within asks takes plain after stays. dump_mirrors Lines limit link id state event part dump kept within asks takes plain after stays

@@ -17,7 +17,7 @@ returns-in-Ok-clause-made c = λ none.
     let told = c.in-Ok._told in
     let e = c.in-Ok.ensures in
     let are = subst AreBuffers (c.buffers.ensures ∙ ap (λ (w : World). w.groups) c.world.ensures.world) c.groups-after.ensures.held in
-    rw (← c.self.view_is) (changed-some _ c.tell.new.self c.count_dropped.new.self c.open_count-before.result c.args.change told.notice (record { accepted = e.outcome; touched = e.touched; are = are; stray = c.world-before.ensures.stray }) e.each c.count_dropped.ensures.counts c.open_count-before.ensures c.count_dropped.ensures.rises)
+    rw (← c.self.view_is) (changed-some _ c.tell.new.self c.count_dropped.new.self c.heed.new.self c.open_count-before.result c.args.change c.of-news.result told.notice (record { accepted = e.outcome; touched = e.touched; are = are; stray = c.world-before.ensures.stray }) e.each c.count_dropped.ensures.counts c.open_count-before.ensures c.count_dropped.ensures.rises c.of-news.ensures c.heed.ensures)
 
 pub returns-in-Err-NoMemory-clause-made : goal.returns-in-Err-NoMemory-clause-made
 returns-in-Err-NoMemory-clause-made c = λ none.

@@ -5,7 +5,7 @@ use Rattle.wc_model.specs.World.{World}
 use Rattle.wc_core.specs.Contained.{Runs}
 use Rattle.wc_core.specs.CoreView.{CoreView}
 use Rattle.wc_core.specs.ServerSteps.{quit_step}
-use Rattle.wc_core.specs.Resolved.{effect_of, Asks, Ends, SavesOptions, SetsOption, Stays, Tells, UnsetsOption}
+use Rattle.wc_core.specs.Resolved.{effect_of, Asks, ChangesHotlist, Ends, SavesOptions, SetsOption, Stays, Tells, UnsetsOption}
 use Rattle.wc_core.specs.Typed.{typed_line}
 use Rattle.wc_core.specs.TypedSeen.{meaning}
 use Rattle.wc_core.proofs.ResolvedTexts.{line-utf8}
@@ -44,6 +44,14 @@ returns-in-Ok-SavesOptions c =
     (rw c.in-Ok-SavesOptions.field-0-is at c.in-Ok-SavesOptions.ensures ∙ ap (λ (w : World). effect_of w c.self.inside.moment c.args.buffer typed) c.world-2.ensures.world
     ∙ ap (effect_of c.self.inside.board.world c.self.inside.moment c.args.buffer) c.read_typed-asked.ensures)
     (rw (← c.self.view_is) at c.save.ensures))
+
+pub returns-in-Ok-ChangesHotlist : goal.returns-in-Ok-ChangesHotlist
+returns-in-Ok-ChangesHotlist c =
+    let typed = meaning c.read_typed-asked.result in
+    rw (← c.self.view_is) (does-resolved _ c.use_hotlist.new.self c.args.buffer (typed_line c.args.line.now) (ChangesHotlist c.in-Ok-ChangesHotlist.usage c.in-Ok-ChangesHotlist.own)
+    (rw c.in-Ok-ChangesHotlist.field-0-is at c.in-Ok-ChangesHotlist.ensures ∙ ap (λ (w : World). effect_of w c.self.inside.moment c.args.buffer typed) c.world-2.ensures.world
+    ∙ ap (effect_of c.self.inside.board.world c.self.inside.moment c.args.buffer) c.read_typed-asked.ensures)
+    (rw (← c.self.view_is) at c.use_hotlist.ensures))
 
 pub returns-in-Ok-Ends : goal.returns-in-Ok-Ends
 returns-in-Ok-Ends c =

@@ -39,4 +39,4 @@ returns-in-Disconnect c = λ text.
 pub returns-in-Join : goal.returns-in-Join
 returns-in-Join c = λ text.
     let P : Lent → Type 0 = λ command. Runs c.args.self.now c.serve_buffer.new.self (λ state. served_step state c.args.buffer c.args.line.now text (Some (meaning command))) in
-    either c.in-Join.is (λ x. subst P (sym x.1) c.serve_buffer.ensures) (λ rest. either rest (λ x. subst P (sym x.1) c.serve_buffer.ensures) (λ rest. either rest (λ x. subst P (sym x.2) c.serve_buffer.ensures) (λ rest. either rest (λ x. subst P (sym x.2) c.serve_buffer.ensures) (λ rest. either rest (λ x. subst P (sym x.1) c.serve_buffer.ensures) (λ rest. either rest (λ x. subst P (sym x.1) c.serve_buffer.ensures) (λ rest. either rest (λ x. subst P (sym x.1) c.serve_buffer.ensures) (λ rest. either rest (λ x. subst P (sym x.1) c.serve_buffer.ensures) (λ rest. either rest (λ x. subst P (sym x.2) c.serve_buffer.ensures) (λ rest. either rest (λ x. subst P (sym x.1) c.serve_buffer.ensures) (λ rest. either rest (λ x. subst P (sym x) c.serve_buffer.ensures) (λ rest. either rest (λ x. subst P (sym x.1) c.serve_buffer.ensures) (λ rest. either rest (λ x. subst P (sym x.1) c.serve_buffer.ensures) (λ x. subst P (sym x.1) c.serve_buffer.ensures)))))))))))))
+    either c.in-Join.is (λ x. subst P (sym x.1) c.serve_buffer.ensures) (λ rest. either rest (λ x. subst P (sym x.1) c.serve_buffer.ensures) (λ rest. either rest (λ x. subst P (sym x.2) c.serve_buffer.ensures) (λ rest. either rest (λ x. subst P (sym x.2) c.serve_buffer.ensures) (λ rest. either rest (λ x. subst P (sym x.1) c.serve_buffer.ensures) (λ rest. either rest (λ x. subst P (sym x.1) c.serve_buffer.ensures) (λ rest. either rest (λ x. subst P (sym x.1) c.serve_buffer.ensures) (λ rest. either rest (λ x. subst P (sym x.1) c.serve_buffer.ensures) (λ rest. either rest (λ x. subst P (sym x.2) c.serve_buffer.ensures) (λ rest. either rest (λ x. subst P (sym x.1) c.serve_buffer.ensures) (λ rest. either rest (λ x. subst P (sym x) c.serve_buffer.ensures) (λ rest. either rest (λ x. subst P (sym x.2) c.serve_buffer.ensures) (λ rest. either rest (λ x. subst P (sym x.1) c.serve_buffer.ensures) (λ rest. either rest (λ x. subst P (sym x.1) c.serve_buffer.ensures) (λ x. subst P (sym x.1) c.serve_buffer.ensures))))))))))))))
