@@ -69,7 +69,8 @@ fn fitting_tags(tags: &[Text]) -> &[Text]
 #[tactic(auto, using(wc_text::proofs::CutLemmas::cut_inside))]
 fn front(text: &Text, limit: usize) -> &[u8]
     requires { IsUtf8 text.now }
-    ensures { result.now ≡ cut_to limit text.now }
+    ensures front { result.now ≡ cut_to limit text.now }
+    ensures utf8 { IsUtf8 result.now }
 {
     let text = text.as_slice();
     text.split_at(cut(text, limit)).0
@@ -105,6 +106,29 @@ fn marks_of(printed: u64, handle: u64, spec: &LineSpec) -> LineMarks
     }
 }
 
+/// The texts of a line as its buffer takes them, lent by what asks for the line.
+#[derive(Clone, Copy)]
+pub struct CutTexts<'a> {
+    pub tags: &'a [Text],
+    pub prefix: &'a [u8],
+    pub message: &'a [u8],
+}
+
+/// The texts that a line has once it is printed: what is too long is cut.
+pub fn cut_texts(spec: &LineSpec) -> CutTexts<'_>
+    requires { IsLineText spec.now }
+    ensures tags { result.tags.now ≡ cut_tags spec.now.tags }
+    ensures prefix { result.prefix.now ≡ cut_to 128 spec.now.prefix }
+    ensures message { result.message.now ≡ cut_to 1024 spec.now.message }
+    ensures utf8 { IsUtf8 result.prefix.now × IsUtf8 result.message.now }
+{
+    CutTexts {
+        tags: fitting_tags(spec.tags.as_slice()),
+        prefix: front(&spec.prefix, PREFIX_LIMIT),
+        message: front(&spec.message, MESSAGE_LIMIT),
+    }
+}
+
 /// The line with this handle, and the next one for its content, where so many were printed before
 /// it in its buffer. What is too long is cut.
 pub(crate) fn line_of(
@@ -118,8 +142,6 @@ pub(crate) fn line_of(
     ensures { IfOk result (λ line. line ≡ line_of printed handle spec) }
 {
     let marks = marks_of(printed, handle, &spec);
-    let tags = fitting_tags(spec.tags.as_slice());
-    let prefix = front(&spec.prefix, PREFIX_LIMIT);
-    let message = front(&spec.message, MESSAGE_LIMIT);
-    PackedLine::new(alloc, marks, tags, prefix, message)
+    let texts = cut_texts(&spec);
+    PackedLine::new(alloc, marks, texts.tags, texts.prefix, texts.message)
 }

@@ -19,4 +19,5 @@ mod on_lines;
 mod on_nicks;
 mod world;
 
+pub use cut::{CutTexts, cut_texts};
 pub use world::World;
