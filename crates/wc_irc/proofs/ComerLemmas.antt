@@ -1,5 +1,5 @@
 -- Names of a list, one after another, as they come onto the list of a channel.
-use Rattle.std.proofs.Common.{◌≡◌, ℕ, true, false, List, [], ◌∷◌, ◌++◌, refl, ap, sym, ◌∙◌, subst, append-nil}
+use Rattle.std.proofs.Common.{◌≡◌, ℕ, Bool, true, false, List, [], ◌∷◌, ◌++◌, refl, ap, sym, ◌∙◌, subst, append-nil}
 use Rattle.wc_ircmsg.specs.declared.case_map.CaseMap.{CaseMap}
 use Rattle.wc_ircmsg.specs.declared.prefixes.Prefixes.{Prefixes}
 use Rattle.wc_irc.specs.declared.names_state.Comer.{Comer}
@@ -24,16 +24,16 @@ seats_append [] comer = refl
 seats_append (first ∷ comers) comer = ap (λ (l : List Seat). seat_of_comer first ∷ l) (seats_append comers comer)
 
 -- a name that is no nick
-pub comers_none : (prefixes : Prefixes) (comers : List Comer) (name nick : List ℕ) → nick ≡ listed_nick prefixes name → is_nick prefixes nick ≡ false → seats_of_comers comers ≡ seats_of_comers comers ++ listed_seat prefixes name
-comers_none prefixes comers name nick is none = sym (append-nil (seats_of_comers comers)) ∙ ap (λ (l : List Seat). seats_of_comers comers ++ l) (name_none prefixes name nick is none)
+pub comers_none : (prefixes : Prefixes) (has_hosts : Bool) (comers : List Comer) (name nick : List ℕ) → nick ≡ listed_nick prefixes has_hosts name → is_nick prefixes nick ≡ false → seats_of_comers comers ≡ seats_of_comers comers ++ listed_seat prefixes has_hosts name
+comers_none prefixes has_hosts comers name nick is none = sym (append-nil (seats_of_comers comers)) ∙ ap (λ (l : List Seat). seats_of_comers comers ++ l) (name_none prefixes has_hosts name nick is none)
 
 -- and one that is
-pub comers_some : (prefixes : Prefixes) (before after : List Comer) (comer : Comer) (name nick : List ℕ) (modes : ModeSet) → nick ≡ listed_nick prefixes name → modes.0 ≡ listed_bits prefixes name → is_nick prefixes nick ≡ true
-    → comer.new.nick ≡ nick → comer.modes ≡ modes → after ≡ before ++ comer ∷ [] → seats_of_comers after ≡ seats_of_comers before ++ listed_seat prefixes name
-comers_some prefixes before after comer name nick modes is bits one nick_is modes_is made =
+pub comers_some : (prefixes : Prefixes) (has_hosts : Bool) (before after : List Comer) (comer : Comer) (name nick : List ℕ) (modes : ModeSet) → nick ≡ listed_nick prefixes has_hosts name → modes.0 ≡ listed_bits prefixes name → is_nick prefixes nick ≡ true
+    → comer.new.nick ≡ nick → comer.modes ≡ modes → after ≡ before ++ comer ∷ [] → seats_of_comers after ≡ seats_of_comers before ++ listed_seat prefixes has_hosts name
+comers_some prefixes has_hosts before after comer name nick modes is bits one nick_is modes_is made =
     ap seats_of_comers made ∙ seats_append before comer
     ∙ (λ i. seats_of_comers before ++ record { nick = nick_is i; modes = modes_is i } ∷ [])
-    ∙ ap (λ (l : List Seat). seats_of_comers before ++ l) (name_some prefixes name nick modes is bits one)
+    ∙ ap (λ (l : List Seat). seats_of_comers before ++ l) (name_some prefixes has_hosts name nick modes is bits one)
 
 -- one more nick of several
 pub comers_put : (was is : CaseMap) (left rest : List Comer) (comer : Comer) (seats later all : List Seat) → was ≡ is → left ≡ comer ∷ rest → later ≡ put_seat was comer.new.nick comer.modes seats

@@ -53,16 +53,16 @@ taken_some prefixes case_map change seats seat there = ap (change_seat prefixes 
 
 -- ---- one name of a list
 
-pub name_none : (prefixes : Prefixes) (name nick : List ℕ) → nick ≡ listed_nick prefixes name → is_nick prefixes nick ≡ false → [] ≡ listed_seat prefixes name
-name_none prefixes name nick is none =
+pub name_none : (prefixes : Prefixes) (has_hosts : Bool) (name nick : List ℕ) → nick ≡ listed_nick prefixes has_hosts name → is_nick prefixes nick ≡ false → [] ≡ listed_seat prefixes has_hosts name
+name_none prefixes has_hosts name nick is none =
     let bare = ap (is_nick prefixes) (sym is) ∙ none in
-    sym (ap (λ (t : Bool). cond t (record { nick = listed_nick prefixes name; modes = record { 0 = listed_bits prefixes name } } ∷ []) []) bare)
+    sym (ap (λ (t : Bool). cond t (record { nick = listed_nick prefixes has_hosts name; modes = record { 0 = listed_bits prefixes name } } ∷ []) []) bare)
 
-pub name_some : (prefixes : Prefixes) (name nick : List ℕ) (modes : ModeSet) → nick ≡ listed_nick prefixes name → modes.0 ≡ listed_bits prefixes name → is_nick prefixes nick ≡ true → record { nick = nick; modes = modes } ∷ [] ≡ listed_seat prefixes name
-name_some prefixes name nick modes is bits one =
+pub name_some : (prefixes : Prefixes) (has_hosts : Bool) (name nick : List ℕ) (modes : ModeSet) → nick ≡ listed_nick prefixes has_hosts name → modes.0 ≡ listed_bits prefixes name → is_nick prefixes nick ≡ true → record { nick = nick; modes = modes } ∷ [] ≡ listed_seat prefixes has_hosts name
+name_some prefixes has_hosts name nick modes is bits one =
     let filled = ap (is_nick prefixes) (sym is) ∙ one in
     (λ i. record { nick = is i; modes = record { 0 = bits i } } ∷ [])
-    ∙ sym (ap (λ (t : Bool). cond t (record { nick = listed_nick prefixes name; modes = record { 0 = listed_bits prefixes name } } ∷ []) []) filled)
+    ∙ sym (ap (λ (t : Bool). cond t (record { nick = listed_nick prefixes has_hosts name; modes = record { 0 = listed_bits prefixes name } } ∷ []) []) filled)
 
 pub placed_some : (before after : List Act) (prefixes : Prefixes) (buffer : List ℕ) (case_map : CaseMap) (listed : Seat) (front others seats later : List Seat) → listed ∷ [] ≡ front
     → after ≡ before ++ placed prefixes buffer listed (seat_of case_map listed.nick seats) → later ≡ put_seat case_map listed.nick listed.modes seats

@@ -1,6 +1,6 @@
 -- What a list of names makes of a channel's list, and what follows of it: a nick comes to the end,
 -- or gets the modes that its signs are, in the place of those it had.
-use Rattle.std.specs.Prelude.{ℕ, List, [], ◌∷◌, ◌++◌, flat_map}
+use Rattle.std.specs.Prelude.{ℕ, Bool, List, [], ◌∷◌, ◌++◌, flat_map, codes}
 use Rattle.std.specs.Prelude.{Option, Some, None, if◌then◌else◌}
 use Rattle.wc_text.specs.Words.{words_of}
 use Rattle.wc_buffers.specs.Calls.{EntryGroups}
@@ -19,7 +19,7 @@ use Rattle.wc_irc_texts.specs.Names.{is_nick}
 use Rattle.wc_irc.specs.NickActs.{add_nick}
 use Rattle.wc_irc_texts.specs.Rows.{param}
 use Rattle.wc_irc_nicks.specs.Seats.{seat_of}
-use Rattle.wc_irc.specs.Servers.{ServerState}
+use Rattle.wc_irc.specs.Servers.{ServerState, has_capability}
 use Rattle.wc_irc.specs.TalkActs.{on_found}
 use Rattle.wc_irc.specs.Targets.{found}
 
@@ -28,17 +28,21 @@ use Rattle.wc_irc.specs.Targets.{found}
 abbrev pub if_nick : Prefixes → Seat → List Seat
 if_nick prefixes seat = if is_nick prefixes seat.nick then seat ∷ [] else []
 
-abbrev pub listed_seat : Prefixes → List ℕ → List Seat
-listed_seat prefixes name = if_nick prefixes (record {
-  nick = listed_nick prefixes name;
+abbrev pub listed_seat : Prefixes → Bool → List ℕ → List Seat
+listed_seat prefixes has_hosts name = if_nick prefixes (record {
+  nick = listed_nick prefixes has_hosts name;
   modes = record { 0 = listed_bits prefixes name };
 })
 
-abbrev pub listed_seats : Prefixes → List (List ℕ) → List Seat
-listed_seats prefixes names = flat_map (listed_seat prefixes) names
+abbrev pub listed_seats : Prefixes → Bool → List (List ℕ) → List Seat
+listed_seats prefixes has_hosts names = flat_map (listed_seat prefixes has_hosts) names
+
+-- names have hosts where this capability stands (IRCv3)
+abbrev pub has_hosts_in_names : ServerState → Bool
+has_hosts_in_names s = has_capability (codes "userhost-in-names") s
 
 abbrev pub seats_in : ServerState → Message → List Seat
-seats_in s m = listed_seats s.features.prefixes (words_of (param 3 m))
+seats_in s m = listed_seats s.features.prefixes (has_hosts_in_names s) (words_of (param 3 m))
 
 -- ---- the lists
 

@@ -8,6 +8,7 @@ use Rattle.wc_irc_texts.specs.declared.features.Features.{Features}
 use Rattle.wc_irc_texts.specs.declared.negotiation.Negotiation.{Negotiation}
 use Rattle.wc_irc.specs.Channels.{Joined}
 use Rattle.wc_irc_texts.specs.Features.{after_tokens}
+use Rattle.wc_irc_texts.specs.Capabilities.{is_among}
 use Rattle.wc_irc_texts.specs.Names.{is_nick, is_same}
 use Rattle.wc_irc_texts.specs.Negotiation.{ended}
 
@@ -38,6 +39,10 @@ pub record ServerState : Type 0 where
 
 abbrev pub is_own : ServerState → List ℕ → Bool
 is_own s nick = is_same s.features.case_map nick s.nick
+
+-- whether the capability of a name stands
+abbrev pub has_capability : List ℕ → ServerState → Bool
+has_capability name s = is_among name s.negotiation.stands
 
 -- ---- 001: the first one of a link gives the own nick, where it is a nick, and ends the login
 

@@ -50,6 +50,7 @@ fn put_name(
     alloc: Global,
     groups: Groups<'_>,
     overlay: &mut Overlay<'_>,
+    has_hosts: bool,
     name: &[u8],
 ) -> Result<(), NoMemory>
     ensures list { overlay.new.list ≡ overlay.old.list }
@@ -57,10 +58,10 @@ fn put_name(
         ++ placed_all groups.entry.prefixes.now groups.entry.buffer.now
         overlay.old.list.now.case_map others (seats_over overlay.new)
         ≡ acts.old ++ placed_all groups.entry.prefixes.now groups.entry.buffer.now
-        overlay.old.list.now.case_map (listed_seat groups.entry.prefixes.now name.now ++ others)
+        overlay.old.list.now.case_map (listed_seat groups.entry.prefixes.now has_hosts name.now ++ others)
         (seats_over overlay.old)) }
 {
-    let listed = listed_name(groups.prefixes, name);
+    let listed = listed_name(groups.prefixes, has_hosts, name);
     if !is_nick(groups.prefixes, listed.nick) {
         return Ok(());
     }
@@ -74,15 +75,16 @@ fn put_names_of(
     alloc: Global,
     groups: Groups<'_>,
     list: &Members,
+    has_hosts: bool,
     names: &[u8],
 ) -> Result<(), NoMemory>
     ensures { OnOk result (acts.new ≡ acts.old ++ placed_all groups.entry.prefixes.now
         groups.entry.buffer.now list.now.case_map
-        (listed_seats groups.entry.prefixes.now (words_of names.now)) list.now.seats) }
+        (listed_seats groups.entry.prefixes.now has_hosts (words_of names.now)) list.now.seats) }
 {
     let mut overlay = Overlay::new(alloc, list);
     for name in words(names) {
-        put_name(acts, alloc, groups, &mut overlay, name)?;
+        put_name(acts, alloc, groups, &mut overlay, has_hosts, name)?;
     }
     Ok(())
 }
@@ -104,5 +106,6 @@ pub(crate) fn put_names_on(
         prefixes: &state.features.prefixes,
         buffer,
     };
-    put_names_of(acts, alloc, groups, &channel.nicks, param(m, 3))
+    let has_hosts = state.has_hosts_in_names();
+    put_names_of(acts, alloc, groups, &channel.nicks, has_hosts, param(m, 3))
 }

@@ -1,6 +1,7 @@
 ghost use Rattle.std.specs.Prelude.{◌≡◌, ◌≤◌, ◌+◌, ◌++◌, length, IfOk, OnOk, OnErr};
 ghost use Rattle.wc_irc_nicks.specs.Merged.{put_seat, merged};
 ghost use Rattle.wc_irc.specs.NameActs.{listed_seat, listed_seats, after_names};
+ghost use Rattle.wc_irc.specs.NameActs.{has_hosts_in_names};
 ghost use Rattle.wc_irc.specs.NamesSeen.{seats_of_comers, MayCome, AllMayCome};
 ghost use Rattle.wc_irc.specs.ModeActs.{after_mode, with_change, with_changes};
 ghost use Rattle.wc_irc_texts.specs.ModesSeen.{change_in, changes_in};
@@ -28,14 +29,15 @@ fn put_comer(
     alloc: Global,
     case_map: CaseMap,
     prefixes: &Prefixes,
+    has_hosts: bool,
     name: &[u8],
 ) -> Result<(), NoMemory>
     requires { AllMayCome case_map comers.old.items }
     ensures seats { OnOk result (seats_of_comers comers.new.items
-        ≡ seats_of_comers comers.old.items ++ listed_seat prefixes.now name.now) }
+        ≡ seats_of_comers comers.old.items ++ listed_seat prefixes.now has_hosts name.now) }
     ensures may { AllMayCome case_map comers.new.items }
 {
-    let listed = listed_name(prefixes, name);
+    let listed = listed_name(prefixes, has_hosts, name);
     if !is_nick(prefixes, listed.nick) {
         return Ok(());
     }
@@ -53,15 +55,16 @@ fn comers_of(
     alloc: Global,
     case_map: CaseMap,
     prefixes: &Prefixes,
+    has_hosts: bool,
     names: &[u8],
 ) -> Result<Vec<Comer>, NoMemory>
     ensures seats { IfOk result (λ comers. seats_of_comers comers.items
-        ≡ listed_seats prefixes.now (words_of names.now)) }
+        ≡ listed_seats prefixes.now has_hosts (words_of names.now)) }
     ensures may { IfOk result (λ comers. AllMayCome case_map comers.items) }
 {
     let mut comers = Vec::new(alloc);
     for name in words(names) {
-        put_comer(&mut comers, alloc, case_map, prefixes, name)?;
+        put_comer(&mut comers, alloc, case_map, prefixes, has_hosts, name)?;
     }
     Ok(comers)
 }
@@ -100,14 +103,15 @@ fn take_names(
     list: &mut Members,
     alloc: Global,
     prefixes: &Prefixes,
+    has_hosts: bool,
     names: &[u8],
 ) -> Result<(), NoMemory>
     ensures case_map { list.new.case_map ≡ list.old.case_map }
     ensures ok { OnOk result (list.new.seats ≡ merged list.old.case_map
-        (listed_seats prefixes.now (words_of names.now)) list.old.seats) }
+        (listed_seats prefixes.now has_hosts (words_of names.now)) list.old.seats) }
     ensures err { OnErr result (list.new.seats ≡ list.old.seats) }
 {
-    let comers = comers_of(alloc, list.case_map(), prefixes, names)?;
+    let comers = comers_of(alloc, list.case_map(), prefixes, has_hosts, names)?;
     list.reserve(comers.len())?;
     put_all(list, comers);
     Ok(())
@@ -138,6 +142,13 @@ fn take_changes(list: &mut Members, prefixes: &Prefixes, changes: &[ModeChange<'
 }
 
 impl State {
+    /// Whether names of a list have hosts.
+    pub(crate) fn has_hosts_in_names(&self) -> bool
+        ensures { result ≡ has_hosts_in_names (seen self.now) }
+    {
+        self.has_capability(b"userhost-in-names")
+    }
+
     /// Takes in the names of a channel.
     pub(crate) fn take_names(&mut self, alloc: Global, m: &Message) -> Result<(), NoMemory>
         ensures after { OnOk result (seen self.new ≡ after_names (seen self.old) m.now) }
@@ -146,8 +157,9 @@ impl State {
         let Some(place) = self.place_of(param(m, 2)) else {
             return Ok(());
         };
+        let has_hosts = self.has_hosts_in_names();
         let list = &mut self.channels[place].nicks;
-        take_names(list, alloc, &self.features.prefixes, param(m, 3))
+        take_names(list, alloc, &self.features.prefixes, has_hosts, param(m, 3))
     }
 
     /// Takes in the modes that are set on a channel.

@@ -1,6 +1,6 @@
 ghost use Rattle.std.specs.Prelude.{◌≡◌, drop, IfOk, OnOk, OnErr};
 ghost use Rattle.wc_irc.specs.Servers.{is_own, own_nick_from, after_welcome, next_nick, may_try};
-ghost use Rattle.wc_irc.specs.Servers.{after_taken, after_features};
+ghost use Rattle.wc_irc.specs.Servers.{after_taken, after_features, has_capability};
 ghost use Rattle.wc_irc.specs.ServersSeen.{seen};
 
 use crate::channel::Channel;
@@ -62,6 +62,13 @@ impl State {
         ensures { result ≡ is_own (seen self.now) nick.now }
     {
         is_same(self.features.case_map, nick, self.nick.as_slice())
+    }
+
+    /// Whether the capability of this name stands.
+    pub(crate) fn has_capability(&self, name: &[u8]) -> bool
+        ensures { result ≡ has_capability name.now (seen self.now) }
+    {
+        self.negotiation.has(name)
     }
 
     /// The own nick after a welcome to this one: the one that it is already, where this is no nick.

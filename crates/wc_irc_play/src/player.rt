@@ -37,6 +37,7 @@ const ROWS: &[&str] = &[
     "modes",
     "groups",
     "listed",
+    "listed-hosts",
     "nick",
     "channel",
 ];

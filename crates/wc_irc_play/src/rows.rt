@@ -137,8 +137,8 @@ fn put_group(alloc: Global, features: &Features, place: Option<usize>, out: &mut
 }
 
 /// Writes the nick of a name with signs, its group and its sign.
-fn listed(alloc: Global, features: &Features, name: &Text, out: &mut Sheet) {
-    let listed = listed_name(&features.prefixes, name.as_slice());
+fn listed(alloc: Global, features: &Features, has_hosts: bool, name: &Text, out: &mut Sheet) {
+    let listed = listed_name(&features.prefixes, has_hosts, name.as_slice());
     out.put_named("nick", listed.nick);
     put_group(alloc, features, listed.modes.highest(), out);
 }
@@ -166,7 +166,8 @@ fn put_answer(
         "tokens" => tokens(alloc, features, text, out),
         "modes" => modes(alloc, features, text, out),
         "groups" => groups(alloc, features, text, out),
-        "listed" => listed(alloc, features, text, out),
+        "listed" => listed(alloc, features, false, text, out),
+        "listed-hosts" => listed(alloc, features, true, text, out),
         "nick" => put_nick(features, text, out),
         "channel" => put_channel(features, text, out),
         _ => return Err(Wrong::Word),

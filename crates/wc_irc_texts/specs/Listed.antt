@@ -1,7 +1,9 @@
--- Names as 353 lists them: signs, of which none need be, and after them a nick.
-use Rattle.std.specs.Prelude.{ℕ, suc, true, List, [], ◌∷◌}
+-- Names as 353 lists them: signs, of which none need be, and after them a nick, or `nick!user@host`
+-- where names have hosts.
+use Rattle.std.specs.Prelude.{ℕ, suc, Bool, true, List, [], ◌∷◌}
 use Rattle.std.specs.Prelude.{Option, Some, None, option_map, bytes_eq, if◌then◌else◌}
 use Rattle.std.specs.List.{concat}
+use Rattle.wc_text.specs.Splits.{before}
 use Rattle.wc_ircmsg.specs.declared.prefixes.Prefixes.{Prefixes}
 use Rattle.wc_irc_texts.specs.ModeBits.{bits_changed}
 use Rattle.wc_irc_texts.specs.Texts.{char_texts}
@@ -35,8 +37,16 @@ after_signs signs [] = []
 after_signs signs (character ∷ characters) = past_sign (place_among signs character)
     (character ∷ characters) (after_signs signs characters)
 
-abbrev pub listed_nick : Prefixes → List ℕ → List ℕ
-listed_nick prefixes name = concat (after_signs (signs_of prefixes) (char_texts name))
+-- what is after the signs
+abbrev pub unsigned : Prefixes → List ℕ → List ℕ
+unsigned prefixes name = concat (after_signs (signs_of prefixes) (char_texts name))
+
+-- and of that the nick, which ends at the first `!` where names have hosts
+abbrev pub bare_nick : Bool → List ℕ → List ℕ
+bare_nick has_hosts name = if has_hosts then before 33 name else name
+
+abbrev pub listed_nick : Prefixes → Bool → List ℕ → List ℕ
+listed_nick prefixes has_hosts name = bare_nick has_hosts (unsigned prefixes name)
 
 abbrev pub listed_places : Prefixes → List ℕ → List ℕ
 listed_places prefixes name = front_signs (signs_of prefixes) (char_texts name)

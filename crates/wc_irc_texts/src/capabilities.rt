@@ -16,7 +16,7 @@ pub const SASL: &[u8] = b"sasl";
 const PLAIN: &[u8] = b"PLAIN";
 
 /// How many capabilities are known beside it.
-const COUNT: usize = 7;
+const COUNT: usize = 8;
 
 /// Those that may be asked for: this program reads rightly what each of them changes.
 const KNOWN: [&[u8]; COUNT] = [
@@ -27,6 +27,7 @@ const KNOWN: [&[u8]; COUNT] = [
     b"chghost",
     b"setname",
     b"message-tags",
+    b"userhost-in-names",
 ];
 
 /// Whether a name is one of these.

@@ -1,11 +1,13 @@
 ghost use Rattle.std.specs.Prelude.{◌≡◌};
-ghost use Rattle.wc_irc_texts.specs.Listed.{place_among, listed_nick, listed_bits};
+ghost use Rattle.wc_irc_texts.specs.Listed.{place_among, unsigned, bare_nick};
+ghost use Rattle.wc_irc_texts.specs.Listed.{listed_nick, listed_bits};
 ghost use Rattle.wc_irc_texts.specs.ListedSeen.{IsCut};
 ghost use Rattle.wc_irc_texts.specs.Texts.{char_texts};
 
 use crate::names::cut_char;
 use crate::seat::ModeSet;
 use wc_ircmsg::Prefixes;
+use wc_text::split_once;
 
 /// A name as a list of names has it, with the modes that its signs are.
 #[derive(Clone, Copy)]
@@ -45,10 +47,9 @@ fn cut_sign<'a>(signs: &[u8], name: &'a [u8]) -> Option<(usize, &'a [u8])>
     }
 }
 
-/// The nick of a name and the modes that its signs are. The signs are the characters of PREFIX that
-/// are at the front of the name.
-pub fn listed_name<'a>(prefixes: &Prefixes, name: &'a [u8]) -> ListedName<'a>
-    ensures nick { result.nick.now ≡ listed_nick prefixes.now name.now }
+/// What is after the signs of a name, and the modes that these are.
+fn without_signs<'a>(prefixes: &Prefixes, name: &'a [u8]) -> ListedName<'a>
+    ensures nick { result.nick.now ≡ unsigned prefixes.now name.now }
     ensures modes { result.modes.0 ≡ listed_bits prefixes.now name.now }
 {
     let mut nick = name;
@@ -58,4 +59,28 @@ pub fn listed_name<'a>(prefixes: &Prefixes, name: &'a [u8]) -> ListedName<'a>
         nick = others;
     }
     ListedName { nick, modes }
+}
+
+/// The nick of a name without signs.
+fn bare_nick(has_hosts: bool, name: &[u8]) -> &[u8]
+    ensures { result.now ≡ bare_nick has_hosts name.now }
+{
+    if has_hosts {
+        split_once(name, b'!').0
+    } else {
+        name
+    }
+}
+
+/// The nick of a name and the modes that its signs are. The signs are the characters of PREFIX that
+/// are at the front of the name. Where names have hosts the nick ends at the first `!` after them.
+pub fn listed_name<'a>(prefixes: &Prefixes, has_hosts: bool, name: &'a [u8]) -> ListedName<'a>
+    ensures nick { result.nick.now ≡ listed_nick prefixes.now has_hosts name.now }
+    ensures modes { result.modes.0 ≡ listed_bits prefixes.now name.now }
+{
+    let listed = without_signs(prefixes, name);
+    ListedName {
+        nick: bare_nick(has_hosts, listed.nick),
+        modes: listed.modes,
+    }
 }

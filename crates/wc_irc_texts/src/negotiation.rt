@@ -1,5 +1,5 @@
 ghost use Rattle.std.specs.Prelude.{◌≡◌, ◌&&◌, IfOk, OnOk, OnErr};
-ghost use Rattle.wc_irc_texts.specs.Capabilities.{unnamed_in};
+ghost use Rattle.wc_irc_texts.specs.Capabilities.{is_among, unnamed_in};
 ghost use Rattle.wc_irc_texts.specs.LoginSteps.{cap_text};
 ghost use Rattle.wc_irc_texts.specs.Negotiation.{logs_in, negotiation_of, login_step, listed};
 ghost use Rattle.wc_irc_texts.specs.Negotiation.{granted, has_sasl, stage_asking, with_asked};
@@ -104,6 +104,13 @@ impl Negotiation {
         } else {
             LoginStep::Foreign
         }
+    }
+
+    /// Whether the capability of this name stands.
+    pub fn has(&self, name: &[u8]) -> bool
+        ensures { result ≡ is_among name.now self.now.stands }
+    {
+        is_among(name, self.stands.as_slice())
     }
 
     /// The capabilities that are wished for and offered, also by this line of the list.

@@ -7,5 +7,5 @@ use Rattle.wc_irc.proofs.names_state.comers_of.Given as goal
 abbrev pub invariant-loop-name : goal.invariant-loop-name
 invariant-loop-name l = record {
   may : AllMayCome l.case_map l.comers.items;
-  same : seats_of_comers l.comers.items ++ listed_seats l.prefixes (words_left l.name-iterator) ≡ listed_seats l.prefixes (words_of l.names);
+  same : seats_of_comers l.comers.items ++ listed_seats l.prefixes l.has_hosts (words_left l.name-iterator) ≡ listed_seats l.prefixes l.has_hosts (words_of l.names);
 }

@@ -7,10 +7,10 @@ use Rattle.wc_irc.proofs.OneChannelLemmas.{short_nick}
 use Rattle.wc_irc.proofs.names_state.put_comer.Goals as goal
 
 pub returns-then-not-is_nick-clause-seats : goal.returns-then-not-is_nick-clause-seats
-returns-then-not-is_nick-clause-seats c = comers_none c.args.prefixes.now c.args.comers.now.items c.args.name.now c.listed_name-listed.result.nick.now c.listed_name-listed.ensures.nick (sym c.is_nick.ensures ∙ c.if-not-is_nick.true)
+returns-then-not-is_nick-clause-seats c = comers_none c.args.prefixes.now c.args.has_hosts c.args.comers.now.items c.args.name.now c.listed_name-listed.result.nick.now c.listed_name-listed.ensures.nick (sym c.is_nick.ensures ∙ c.if-not-is_nick.true)
 
 pub returns-clause-seats : goal.returns-clause-seats
-returns-clause-seats c = comers_some c.args.prefixes.now c.args.comers.now.items c.push_reserved.new.self.items (record { new = c.in_ok-new.new; modes = c.listed_name-listed.result.modes }) c.args.name.now c.listed_name-listed.result.nick.now c.listed_name-listed.result.modes
+returns-clause-seats c = comers_some c.args.prefixes.now c.args.has_hosts c.args.comers.now.items c.push_reserved.new.self.items (record { new = c.in_ok-new.new; modes = c.listed_name-listed.result.modes }) c.args.name.now c.listed_name-listed.result.nick.now c.listed_name-listed.result.modes
     c.listed_name-listed.ensures.nick c.listed_name-listed.ensures.modes (sym c.is_nick.ensures ∙ c.if-not-is_nick.false) (ap (λ (v : NewNickValue). v.nick) c.in_ok-new.ensures) refl (cc)
 
 pub returns-clause-may : goal.returns-clause-may

@@ -26,8 +26,8 @@ returns-clause-after c =
     let next : Channel = record { name = here.name; nicks = c.take_names.new.list } in
     let by = with_names (seats_in (seen s) m) in
     let there = sym c.place_of.ensures ∙ c.in-Some.is in
-    on_ok_weaker c.take_names.result (λ (is : c.take_names.new.list.seats ≡ merged here.nicks.case_map (listed_seats s.features.prefixes (words_of c.param-2.result.now)) here.nicks.seats).
-    let seats = is ∙ ap (λ (n : List ℕ). merged here.nicks.case_map (listed_seats s.features.prefixes (words_of n)) here.nicks.seats) c.param-2.ensures in
+    on_ok_weaker c.take_names.result (λ (is : c.take_names.new.list.seats ≡ merged here.nicks.case_map (listed_seats s.features.prefixes c.has_hosts_in_names-has_hosts.result (words_of c.param-2.result.now)) here.nicks.seats).
+    let seats = is ∙ (λ i. merged here.nicks.case_map (listed_seats s.features.prefixes (c.has_hosts_in_names-has_hosts.ensures i) (words_of (c.param-2.ensures i))) here.nicks.seats) in
     let one : joined next ≡ by (joined here) = λ i. record { name = here.name; case_map = c.take_names.ensures.case_map i; seats = seats i } in
     let channels = channel_changed s.features.case_map c.param.result.now by s.channels.items c.in-Some.place here next there (one ∙ ap (λ (ch : Channel). by (joined ch)) c.index_mut.ensures.value)
     ∙ ap (λ (n : List ℕ). change_first s.features.case_map n by (map joined s.channels.items)) c.param.ensures in

@@ -4,7 +4,7 @@ use Rattle.wc_irc_texts.specs.Listed.{front_signs, bits_of, listed_bits}
 use Rattle.wc_irc_texts.specs.Texts.{char_texts}
 use Rattle.wc_irc_texts.specs.ListedSeen.{HasNoSign, HasSign}
 use Rattle.wc_irc_texts.proofs.ListedLemmas.{concat-chars, bits_step, bits_end}
-use Rattle.wc_irc_texts.proofs.listed.listed_name.Goals as goal
+use Rattle.wc_irc_texts.proofs.listed.without_signs.Goals as goal
 
 pub loop-place-preserved : goal.loop-place-preserved
 loop-place-preserved c =

@@ -1,7 +1,7 @@
 use Rattle.std.proofs.Common.{◌≡◌, length}
 use Rattle.wc_irc_texts.specs.Listed.{signs_of, front_signs, after_signs, bits_of, listed_bits}
 use Rattle.wc_irc_texts.specs.Texts.{char_texts}
-use Rattle.wc_irc_texts.proofs.listed.listed_name.Given as goal
+use Rattle.wc_irc_texts.proofs.listed.without_signs.Given as goal
 
 abbrev pub invariant-loop-place : goal.invariant-loop-place
 invariant-loop-place l = record {
