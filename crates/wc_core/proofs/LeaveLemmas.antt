@@ -36,6 +36,7 @@ use Rattle.wc_irc.specs.ChannelStates.{channel_at, may_have}
 use Rattle.wc_irc.specs.Channels.{Joined}
 use Rattle.wc_irc.specs.CloseActs.{disconnect_acts}
 use Rattle.wc_irc.specs.CommandActs.{Place, Errand, Refuses, Sends, Speaks, Notifies, SendsLine, Opens, SendsBoth, place_in, errand_of, if_linked, acts_of_errand, acts_of_line, linked_in, acts_of_typed, acts_of_unlinked}
+use Rattle.wc_irc.specs.InviteActs.{is_of_another, invite_on}
 use Rattle.wc_irc.specs.LongTexts.{room_for, text_to, speech, wrapped, sent_parts, deed_room, long_speech, speech_acts, long_notice, notify_acts}
 use Rattle.wc_irc.specs.SentLines.{told_in, refusal, too_long, sent_message, fits_line, line_acts, both_acts}
 use Rattle.wc_irc.specs.LinkActs.{pass_acts, user_act, first_acts}
@@ -49,7 +50,7 @@ use Rattle.wc_irc.specs.RenameActs.{come_again, nick_line, rename_on, rename_as,
 use Rattle.wc_irc.specs.ServerActs.{acts_of_kind, kind_to, acts_of_server}
 use Rattle.wc_irc.specs.Servers.{ServerState, is_own, own_nick_from, next_nick, may_try}
 use Rattle.wc_irc.specs.SpeechActs.{Talk, Says, Does, Requests, talk_of, talk_heard, talk_line, talk_tags, on_private, on_target, acts_of_talk}
-use Rattle.wc_irc.specs.TalkActs.{on_found, aimed, sent, differs, told_nick, tell_nick, welcome_line, raised, welcome_acts, notice_line, notice_acts, has_var}
+use Rattle.wc_irc.specs.TalkActs.{on_found, other_acts, aimed, sent, differs, told_nick, tell_nick, welcome_line, raised, welcome_acts, notice_line, notice_acts, has_var}
 use Rattle.wc_irc.specs.Targets.{found, full_name}
 use Rattle.wc_core.specs.ServerSteps.{leave_in}
 use Rattle.wc_core.specs.ServerTyped.{acts_in}
@@ -256,6 +257,7 @@ kind-leaves groups s m kind.Privmsg = inl (spoken groups s m (talk_heard m))
 kind-leaves groups s m kind.Notice = inl (noticed groups s m)
 kind-leaves groups s m kind.Ping = inl refl
 kind-leaves groups s m kind.Error = inl refl
+kind-leaves groups s m kind.Invite = inl (either (is_of_another s m) (on_found (found groups s (param 1 m)) (invite_on m)) (other_acts s m) (where_found (found groups s (param 1 m)) (invite_on m) (λ buffer. refl)) refl)
 kind-leaves groups s m kind.Other = step-leaves s m (login_step s.negotiation m)
 
 pub server-leaves : (groups : EntryGroups) (s : ServerState) (m : Message) → MayLeave cause.NickTaken (leave_in (acts_of_server groups s m))

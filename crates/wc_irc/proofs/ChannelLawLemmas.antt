@@ -7,7 +7,7 @@ use Rattle.wc_ircmsg.specs.declared.case_map.CaseMap.{CaseMap}
 use Rattle.wc_ircmsg.specs.declared.message.Message.{Message}
 use Rattle.wc_ircmsg.specs.declared.prefixes.Prefixes.{Prefixes}
 use Rattle.wc_irc_texts.specs.declared.kind.MessageKind.{MessageKind}
-use Rattle.wc_irc_texts.specs.declared.kind.MessageKind.TheVariants.{Welcome, Tokens, NickInUse, Join, Part, Quit, Kick, Nick, Mode, Topic, TopicReply, Names, NamesEnd, ModeReply, Privmsg, Notice, Ping, Error, Other}
+use Rattle.wc_irc_texts.specs.declared.kind.MessageKind.TheVariants.{Welcome, Tokens, NickInUse, Join, Part, Quit, Kick, Nick, Mode, Topic, TopicReply, Names, NamesEnd, ModeReply, Privmsg, Notice, Ping, Error, Invite, Other}
 use Rattle.wc_irc.specs.declared.refused.ServerRefused.TheVariants.{TlsOn}
 use Rattle.wc_irc.specs.ChannelLaws.{AreNamed, HasChannelNames}
 use Rattle.wc_irc.specs.Channels.{Joined, without_nick}
@@ -126,6 +126,7 @@ kind_keeps s m Privmsg is are = are
 kind_keeps s m Notice is are = are
 kind_keeps s m Ping is are = are
 kind_keeps s m Error is are = are
+kind_keeps s m Invite is are = are
 kind_keeps s m Other is are = are
 
 -- ---- a server at its start, after any message, and where its link begins or is lost

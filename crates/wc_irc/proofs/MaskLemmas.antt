@@ -3,7 +3,7 @@ use Rattle.std.proofs.Common.{◌≡◌, ℕ, Bool, true, false, cond, List, [],
 use Rattle.std.specs.Prelude.{is_some, unwrap_or}
 use Rattle.wc_ircmsg.specs.declared.message.Message.{Message}
 use Rattle.wc_irc_texts.specs.declared.kind.MessageKind.{MessageKind}
-use Rattle.wc_irc_texts.specs.declared.kind.MessageKind.TheVariants.{Welcome, Tokens, NickInUse, Join, Part, Quit, Kick, Nick, Mode, Topic, TopicReply, Names, NamesEnd, ModeReply, Privmsg, Notice, Ping, Error, Other}
+use Rattle.wc_irc_texts.specs.declared.kind.MessageKind.TheVariants.{Welcome, Tokens, NickInUse, Join, Part, Quit, Kick, Nick, Mode, Topic, TopicReply, Names, NamesEnd, ModeReply, Privmsg, Notice, Ping, Error, Invite, Other}
 use Rattle.wc_irc_texts.specs.Rows.{param}
 use Rattle.wc_irc.specs.Channels.{Joined}
 use Rattle.wc_irc.specs.ChannelStates.{channel_at}
@@ -38,6 +38,7 @@ kept_mask s m Privmsg = refl
 kept_mask s m Notice = refl
 kept_mask s m Ping = refl
 kept_mask s m Error = refl
+kept_mask s m Invite = refl
 kept_mask s m Other = refl
 
 -- a server after a message, where what it tells is put in last

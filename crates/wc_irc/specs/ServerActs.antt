@@ -8,9 +8,10 @@ use Rattle.wc_irc_texts.specs.declared.kind.MessageKind.TheVariants.{Welcome, To
 use Rattle.wc_irc_texts.specs.declared.kind.MessageKind.TheVariants.{Part, Quit, Kick, Nick, Mode, Topic}
 use Rattle.wc_irc_texts.specs.declared.kind.MessageKind.TheVariants.{TopicReply, Names, NamesEnd}
 use Rattle.wc_irc_texts.specs.declared.kind.MessageKind.TheVariants.{ModeReply, Privmsg, Notice, Ping}
-use Rattle.wc_irc_texts.specs.declared.kind.MessageKind.TheVariants.{Error, Other}
+use Rattle.wc_irc_texts.specs.declared.kind.MessageKind.TheVariants.{Error, Invite, Other}
 use Rattle.wc_irc.specs.ChannelActs.{join_acts, part_acts, kick_acts, quit_acts}
 use Rattle.wc_irc.specs.ChannelStates.{after_join, after_leave, quit_by, after_nick}
+use Rattle.wc_irc.specs.InviteActs.{invite_acts}
 use Rattle.wc_irc_texts.specs.Rows.{param, kind_of}
 use Rattle.wc_irc.specs.LoginActs.{login_acts, after_login}
 use Rattle.wc_irc.specs.Servers.{ServerState, after_welcome, after_taken, after_features}
@@ -42,6 +43,7 @@ acts_of_kind groups s m Privmsg = privmsg_acts groups s m
 acts_of_kind groups s m Notice = notice_acts groups s m
 acts_of_kind groups s m Ping = ping_acts m
 acts_of_kind groups s m Error = error_acts s m
+acts_of_kind groups s m Invite = invite_acts groups s m
 acts_of_kind groups s m Other = login_acts s m
 
 unfoldable pub after_kind : ServerState → Message → MessageKind → ServerState
@@ -63,6 +65,7 @@ after_kind s m Privmsg = s
 after_kind s m Notice = s
 after_kind s m Ping = s
 after_kind s m Error = s
+after_kind s m Invite = s
 after_kind s m Other = after_login s m
 
 abbrev pub kind_to : ServerState → Message → MessageKind

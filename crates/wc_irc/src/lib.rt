@@ -13,6 +13,7 @@ mod command_acts;
 mod errand;
 mod errand_acts;
 mod everyday;
+mod invite_acts;
 mod lines;
 mod link_acts;
 mod login_acts;

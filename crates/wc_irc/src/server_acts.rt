@@ -8,6 +8,7 @@ ghost use Rattle.wc_ircmsg.specs.Utf8.{MessageIsUtf8};
 use crate::act::Act;
 use crate::channel_acts::{put_join, put_quit};
 use crate::channel_row::{ChannelRow, put_row};
+use crate::invite_acts::put_invite;
 use crate::login_acts::put_login;
 use crate::rename_acts::put_nick;
 use crate::speech_acts::put_privmsg;
@@ -146,6 +147,7 @@ fn put_acts(
         MessageKind::Notice => put_notice(acts, alloc, buffers, state, m),
         MessageKind::Ping => put_ping(acts, alloc, m),
         MessageKind::Error => put_error(acts, alloc, state, m),
+        MessageKind::Invite => put_invite(acts, alloc, buffers, state, m),
         MessageKind::Tokens => put_other(acts, alloc, state, m),
         MessageKind::Other => put_login(acts, alloc, state, m),
     }

@@ -9,7 +9,7 @@ use Rattle.wc_irc_texts.specs.declared.kind.MessageKind.TheVariants.{Welcome, To
 use Rattle.wc_irc_texts.specs.declared.kind.MessageKind.TheVariants.{Part, Quit, Kick, Nick, Mode, Topic}
 use Rattle.wc_irc_texts.specs.declared.kind.MessageKind.TheVariants.{TopicReply, Names, NamesEnd}
 use Rattle.wc_irc_texts.specs.declared.kind.MessageKind.TheVariants.{ModeReply, Privmsg, Notice, Ping}
-use Rattle.wc_irc_texts.specs.declared.kind.MessageKind.TheVariants.{Error, Other}
+use Rattle.wc_irc_texts.specs.declared.kind.MessageKind.TheVariants.{Error, Invite, Other}
 use Rattle.wc_irc_texts.specs.Names.{is_channel}
 
 -- ---- parameters
@@ -49,11 +49,12 @@ command_of Privmsg = codes "PRIVMSG"
 command_of Notice = codes "NOTICE"
 command_of Ping = codes "PING"
 command_of Error = codes "ERROR"
+command_of Invite = codes "INVITE"
 command_of Other = []
 
 abbrev pub named_kinds : List MessageKind
 named_kinds = Welcome ∷ Tokens ∷ NickInUse ∷ Join ∷ Part ∷ Quit ∷ Kick ∷ Nick ∷ Mode ∷ Topic
-    ∷ TopicReply ∷ Names ∷ NamesEnd ∷ ModeReply ∷ Privmsg ∷ Notice ∷ Ping ∷ Error ∷ []
+    ∷ TopicReply ∷ Names ∷ NamesEnd ∷ ModeReply ∷ Privmsg ∷ Notice ∷ Ping ∷ Error ∷ Invite ∷ []
 
 abbrev pub kind_found : List ℕ → Option MessageKind
 kind_found command = find (λ kind. bytes_eq command (command_of kind)) named_kinds
@@ -90,6 +91,7 @@ is_complete chan_types is_registered m Privmsg = has_params 2 m
 is_complete chan_types is_registered m Notice = has_params 2 m
 is_complete chan_types is_registered m Ping = has_params 1 m
 is_complete chan_types is_registered m Error = has_params 1 m
+is_complete chan_types is_registered m Invite = is_about_channel chan_types 2 1 m
 is_complete chan_types is_registered m Other = true
 
 unfoldable pub kind_of : List ℕ → Bool → Message → MessageKind

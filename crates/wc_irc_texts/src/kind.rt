@@ -34,12 +34,13 @@ pub enum MessageKind {
     Notice,
     Ping,
     Error,
+    Invite,
     /// Any other, and one that lacks what its kind uses.
     Other,
 }
 
 impl MessageKind {
-    const NAMED: [MessageKind; 18] = [
+    const NAMED: [MessageKind; 19] = [
         MessageKind::Welcome,
         MessageKind::Tokens,
         MessageKind::NickInUse,
@@ -58,6 +59,7 @@ impl MessageKind {
         MessageKind::Notice,
         MessageKind::Ping,
         MessageKind::Error,
+        MessageKind::Invite,
     ];
 
     fn command(self) -> &'static [u8]
@@ -82,6 +84,7 @@ impl MessageKind {
             MessageKind::Notice => b"NOTICE",
             MessageKind::Ping => b"PING",
             MessageKind::Error => b"ERROR",
+            MessageKind::Invite => b"INVITE",
             MessageKind::Other => b"",
         }
     }
@@ -145,7 +148,7 @@ fn is_complete(chan_types: &[u8], is_registered: bool, m: &Message, kind: Messag
         MessageKind::Kick | MessageKind::Mode | MessageKind::Topic => {
             is_about_channel(chan_types, m, 2, 0)
         }
-        MessageKind::NamesEnd => is_about_channel(chan_types, m, 2, 1),
+        MessageKind::NamesEnd | MessageKind::Invite => is_about_channel(chan_types, m, 2, 1),
         MessageKind::TopicReply | MessageKind::ModeReply => is_about_channel(chan_types, m, 3, 1),
     }
 }

@@ -18,6 +18,7 @@ use Rattle.wc_irc.specs.ChannelStates.{channel_at, may_have}
 use Rattle.wc_irc.specs.Lines.{printed, full_tags}
 use Rattle.wc_irc.specs.LoginActs.{end_act, asking_act, failure_act, refusal_act, acts_of_step}
 use Rattle.wc_irc.specs.ModeActs.{same_place, moved, modes_after, change_acts, with_change, changes_acts, mode_moves, mode_line, mode_on, mode_acts}
+use Rattle.wc_irc.specs.InviteActs.{is_of_another, invite_on}
 use Rattle.wc_irc.specs.NameActs.{placed, placed_all, seats_in, names_in, names_on, names_acts}
 use Rattle.wc_irc.specs.NewBuffers.{opened, name_or}
 use Rattle.wc_irc.specs.NickActs.{add_group, add_groups, add_nick, remove_nick, emptied}
@@ -25,7 +26,7 @@ use Rattle.wc_irc.specs.RenameActs.{come_again, nick_line, rename_on, rename_as,
 use Rattle.wc_irc.specs.Servers.{ServerState, is_own, own_nick_from, may_try, next_nick}
 use Rattle.wc_irc.specs.ServerActs.{acts_of_kind, acts_of_server, kind_to}
 use Rattle.wc_irc.specs.SpeechActs.{Talk, Says, Does, Requests, talk_heard, talk_line, talk_tags, on_private, on_target, acts_of_talk, privmsg_acts}
-use Rattle.wc_irc.specs.TalkActs.{aimed, sent, other_acts, taken_acts, has_var, differs, told_nick, tell_nick, welcome_line, raised, welcome_acts, notice_line, notice_acts}
+use Rattle.wc_irc.specs.TalkActs.{on_found, aimed, sent, other_acts, taken_acts, has_var, differs, told_nick, tell_nick, welcome_line, raised, welcome_acts, notice_line, notice_acts}
 use Rattle.wc_irc.specs.Targets.{found, full_name, server_buffer}
 use Rattle.wc_irc.specs.TitleActs.{topic_on, topic_reply_on, names_end_on, mode_reply_on}
 use Rattle.wc_irc_nicks.specs.Seats.{seat_of}
@@ -261,6 +262,7 @@ mild_kind groups s m kind.Privmsg = mild_privmsg groups s m
 mild_kind groups s m kind.Notice = mild_notice groups s m
 mild_kind groups s m kind.Ping = (tt, tt)
 mild_kind groups s m kind.Error = mild_line (server_buffer s.name) _ _ _
+mild_kind groups s m kind.Invite = mild_if (is_of_another s m) (on_found (found groups s (param 1 m)) (invite_on m)) (other_acts s m) (mild_found (found groups s (param 1 m)) (invite_on m) (λ buffer. mild_line buffer _ _ _)) (mild_line (server_buffer s.name) _ _ _)
 mild_kind groups s m kind.Other = mild_step s m (login_step s.negotiation m)
 
 pub mild_message : (groups : EntryGroups) (s : ServerState) (m : Message) → AreMild (acts_of_server groups s m)
