@@ -1,5 +1,5 @@
 -- For what the loss of a server is asked for by what it says, or by what is typed for it.
-use Rattle.std.proofs.Common.{◌≡◌, ◌⊎◌, inl, inr, ℕ, Bool, true, false, cond, ◌&&◌, List, [], ◌∷◌, ◌++◌, codes, Option, Some, None, refl, ◌∙◌}
+use Rattle.std.proofs.Common.{◌≡◌, ◌⊎◌, inl, inr, ℕ, Bool, true, false, cond, ◌&&◌, List, [], ◌∷◌, ◌++◌, codes, Option, Some, None, refl, sym, subst, ◌∙◌}
 use Rattle.std.specs.Prelude.{map, flat_map, length, nat_le, option_map, option_and_then}
 use Rattle.wc_text.specs.declared.names.Cause.{Cause}
 use Rattle.wc_text.specs.declared.names.Cause.TheVariants as cause
@@ -25,6 +25,7 @@ use Rattle.wc_irc_texts.specs.declared.kind.MessageKind.{MessageKind}
 use Rattle.wc_irc_texts.specs.declared.kind.MessageKind.TheVariants as kind
 use Rattle.wc_irc_texts.specs.declared.login_step.LoginStep.{LoginStep}
 use Rattle.wc_irc_texts.specs.declared.login_step.LoginStep.TheVariants as steps
+use Rattle.wc_irc_texts.specs.declared.moment.Moment.{Moment}
 use Rattle.wc_irc_texts.specs.declared.negotiation.Negotiation.{Negotiation}
 use Rattle.wc_irc_texts.specs.declared.seat.Seat.{Seat}
 use Rattle.wc_irc_words.specs.Typed.{ServerCommand, asked_of}
@@ -36,6 +37,7 @@ use Rattle.wc_irc.specs.ChannelStates.{channel_at, may_have}
 use Rattle.wc_irc.specs.Channels.{Joined}
 use Rattle.wc_irc.specs.CloseActs.{disconnect_acts}
 use Rattle.wc_irc.specs.CommandActs.{Place, Errand, Refuses, Sends, Speaks, Notifies, SendsLine, Opens, SendsBoth, place_in, errand_of, if_linked, acts_of_errand, acts_of_line, linked_in, acts_of_typed, acts_of_unlinked}
+use Rattle.wc_irc.specs.Dates.{moment_of, dated, dated_acts}
 use Rattle.wc_irc.specs.InviteActs.{is_of_another, invite_on}
 use Rattle.wc_irc.specs.LongTexts.{room_for, text_to, speech, wrapped, sent_parts, deed_room, long_speech, speech_acts, long_notice, notify_acts}
 use Rattle.wc_irc.specs.SentLines.{told_in, refusal, too_long, sent_message, fits_line, line_acts, both_acts}
@@ -260,8 +262,23 @@ kind-leaves groups s m kind.Error = inl refl
 kind-leaves groups s m kind.Invite = inl (either (is_of_another s m) (on_found (found groups s (param 1 m)) (invite_on m)) (other_acts s m) (where_found (found groups s (param 1 m)) (invite_on m) (λ buffer. refl)) refl)
 kind-leaves groups s m kind.Other = step-leaves s m (login_step s.negotiation m)
 
+-- dates change nothing of it
+dated-leaves : (moment : Moment) (acts : List Act) → leave_in (map (dated moment) acts) ≡ leave_in acts
+dated-leaves moment [] = refl
+dated-leaves moment (act.Open spec ∷ acts) = dated-leaves moment acts
+dated-leaves moment (act.On full_name change ∷ acts) = dated-leaves moment acts
+dated-leaves moment (act.Send line ∷ acts) = dated-leaves moment acts
+dated-leaves moment (act.Raise signal payload ∷ acts) = dated-leaves moment acts
+dated-leaves moment (act.Leave why ∷ acts) = refl
+
+all-dated-leave : (moment : Option Moment) (acts : List Act) → leave_in (dated_acts moment acts) ≡ leave_in acts
+all-dated-leave None acts = refl
+all-dated-leave (Some moment) acts = dated-leaves moment acts
+
 pub server-leaves : (groups : EntryGroups) (s : ServerState) (m : Message) → MayLeave cause.NickTaken (leave_in (acts_of_server groups s m))
-server-leaves groups s m = kind-leaves groups s m (kind_to s m)
+server-leaves groups s m =
+    let acts = acts_of_kind groups s m (kind_to s m) in
+    subst (MayLeave cause.NickTaken) (sym (all-dated-leave (moment_of s m) acts)) (kind-leaves groups s m (kind_to s m))
 
 -- as its link stands it doesn't
 pub first-leaves : (s : ServerState) → leave_in (first_acts s) ≡ None

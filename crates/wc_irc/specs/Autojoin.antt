@@ -8,9 +8,10 @@ use Rattle.wc_irc_texts.specs.Pieces.{pieces}
 use Rattle.wc_irc_texts.specs.Texts.{in_one_line}
 use Rattle.wc_irc_words.specs.Typed.{is_target}
 
--- a message without a prefix
+-- a message without tags and a prefix
 abbrev pub message : List ℕ → List (List ℕ) → Message
 message command params = record {
+  tags = [];
   nick = [];
   user = [];
   host = [];

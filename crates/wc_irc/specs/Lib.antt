@@ -9,6 +9,7 @@ pub mod CommandActs
 pub mod CommandLaws
 pub mod CommandSeen
 pub mod Lines
+pub mod Dates
 pub mod InviteActs
 pub mod LinkActs
 pub mod LoginActs

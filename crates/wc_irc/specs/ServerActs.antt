@@ -11,6 +11,7 @@ use Rattle.wc_irc_texts.specs.declared.kind.MessageKind.TheVariants.{ModeReply, 
 use Rattle.wc_irc_texts.specs.declared.kind.MessageKind.TheVariants.{Error, Invite, Other}
 use Rattle.wc_irc.specs.ChannelActs.{join_acts, part_acts, kick_acts, quit_acts}
 use Rattle.wc_irc.specs.ChannelStates.{after_join, after_leave, quit_by, after_nick}
+use Rattle.wc_irc.specs.Dates.{moment_of, dated_acts}
 use Rattle.wc_irc.specs.InviteActs.{invite_acts}
 use Rattle.wc_irc_texts.specs.Rows.{param, kind_of}
 use Rattle.wc_irc.specs.LoginActs.{login_acts, after_login}
@@ -72,7 +73,7 @@ abbrev pub kind_to : ServerState → Message → MessageKind
 kind_to s m = kind_of s.features.chan_types s.is_registered m
 
 abbrev pub acts_of_server : EntryGroups → ServerState → Message → List Act
-acts_of_server groups s m = acts_of_kind groups s m (kind_to s m)
+acts_of_server groups s m = dated_acts (moment_of s m) (acts_of_kind groups s m (kind_to s m))
 
 abbrev pub with_mask : List ℕ → ServerState → ServerState
 with_mask mask s = record s { mask = mask }

@@ -4,7 +4,8 @@ use wc_text::{Cause, Text};
 
 /// What is to be done for a server. A list of these is done in its order.
 ///
-/// Lines have no dates yet, and renames no flips: who runs an act gives it those. An act on a buffer
+/// Lines have no dates yet but those that a server tells, and renames no flips: who runs an act gives
+/// it those. An act on a buffer
 /// that is not there is passed over, and so is one whose change is refused.
 #[derive(Drop)]
 pub enum Act {

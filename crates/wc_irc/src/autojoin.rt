@@ -21,12 +21,13 @@ fn join_params(alloc: Global, channel: &[u8], key: &[u8]) -> Result<Items<Text>,
     Ok(params)
 }
 
-/// The line of a message without a prefix.
+/// The line of a message without tags and a prefix.
 pub(crate) fn line_of(alloc: Global, command: Text, params: Items<Text>) -> Result<Text, NoMemory>
     requires { IsWritable (message command params) }
     ensures { IfOk result (λ line. line ≡ line_of (message command params)) }
 {
     let message = Message {
+        tags: Text::new(alloc),
         nick: Text::new(alloc),
         user: Text::new(alloc),
         host: Text::new(alloc),

@@ -10,6 +10,7 @@ mod channel_row;
 mod channel_state;
 mod close_acts;
 mod command_acts;
+mod dates;
 mod errand;
 mod errand_acts;
 mod everyday;

@@ -137,6 +137,9 @@ impl Server {
     /// and takes it out where the name is no nick or another one's. A MODE and a list of names (353)
     /// move nicks between the groups of PREFIX. What is said privately opens the buffer of its nick.
     ///
+    /// Where the capability `server-time` stands, the lines have the moment that the message tells,
+    /// and else none.
+    ///
     /// A message of the own nick with a user and a host tells how much of a text reaches others in
     /// one line.
     pub fn on_message(

@@ -1,6 +1,7 @@
 ghost use Rattle.std.specs.Prelude.{◌≡◌, ◌++◌, unwrap_or, IfOk, OnOk, OnErr};
 ghost use Rattle.wc_irc.specs.ServerActs.{acts_of_kind, after_kind, kind_to};
 ghost use Rattle.wc_irc.specs.ServerActs.{acts_of_server, with_mask, after_server};
+ghost use Rattle.wc_irc.specs.Dates.{moment_of, dated_acts};
 ghost use Rattle.wc_irc.specs.Servers.{tells_mask, mask_after};
 ghost use Rattle.wc_irc.specs.ServersSeen.{seen};
 ghost use Rattle.wc_ircmsg.specs.Utf8.{MessageIsUtf8};
@@ -8,6 +9,7 @@ ghost use Rattle.wc_ircmsg.specs.Utf8.{MessageIsUtf8};
 use crate::act::Act;
 use crate::channel_acts::{put_join, put_quit};
 use crate::channel_row::{ChannelRow, put_row};
+use crate::dates::{dated_acts, moment_of};
 use crate::invite_acts::put_invite;
 use crate::login_acts::put_login;
 use crate::rename_acts::put_nick;
@@ -162,12 +164,12 @@ pub(crate) fn acts_of(
     kind: MessageKind,
 ) -> Result<Items<Act>, NoMemory>
     requires { MessageIsUtf8 m.now }
-    ensures { IfOk result (λ acts. acts
-        ≡ acts_of_kind buffers.now (seen state.now) m.now kind) }
+    ensures { IfOk result (λ acts. acts ≡ dated_acts (moment_of (seen state.now) m.now)
+        (acts_of_kind buffers.now (seen state.now) m.now kind)) }
 {
     let mut acts = Items::new(alloc);
     put_acts(&mut acts, alloc, buffers, state, m, kind)?;
-    Ok(acts)
+    dated_acts(alloc, moment_of(state, m), acts)
 }
 
 /// The same, and takes the message in. Where memory is refused the server stays as it was.

@@ -12,6 +12,14 @@ fn put_pair(out: &mut Sheet, pair: &Pair) {
     out.put_two(" has", pair.name.as_slice(), pair.value.as_slice());
 }
 
+/// Writes the date of a line that has one.
+fn put_date(out: &mut Sheet, line: &LineSpec) {
+    if line.date != 0 {
+        let written = write!(out.text, " at {} and {}", line.date, line.usec);
+        out.note(written);
+    }
+}
+
 fn put_line(out: &mut Sheet, line: &LineSpec) {
     out.put_two(" prints", line.prefix.as_slice(), line.message.as_slice());
     out.put(" tags ");
@@ -19,6 +27,7 @@ fn put_line(out: &mut Sheet, line: &LineSpec) {
     let written = write!(out.text, " notify {}", line.notify);
     out.note(written);
     out.put(if line.highlight { " highlight" } else { "" });
+    put_date(out, line);
 }
 
 fn put_item(out: &mut Sheet, name: &str, group: &Text, item: &Item) {

@@ -3,7 +3,7 @@
 use crate::sheet::Sheet;
 use std::alloc::Global;
 use wc_irc::autojoin_lines;
-use wc_irc_texts::{in_one_line, plain, reason_text, spaced};
+use wc_irc_texts::{Moment, in_one_line, plain, read_time, reason_text, spaced, tag_time};
 use wc_notation::{Wrong, unescape};
 use wc_text::{Items, NoMemory, Text, words};
 
@@ -48,6 +48,21 @@ fn put_spaced(alloc: Global, text: &[u8], out: &mut Sheet) {
     }
 }
 
+fn put_moment(out: &mut Sheet, moment: Option<Moment>) {
+    match moment {
+        Some(
+            Moment {
+                seconds,
+                microseconds,
+            },
+        ) => {
+            let written = write!(out.text, "{seconds} and {microseconds}");
+            out.note(written);
+        }
+        None => out.put("no time"),
+    }
+}
+
 fn put_answer(alloc: Global, call: &str, text: &[u8], out: &mut Sheet) -> Result<(), Wrong> {
     match call {
         "autojoin" => put_list(out, autojoin_lines(alloc, text)),
@@ -55,6 +70,8 @@ fn put_answer(alloc: Global, call: &str, text: &[u8], out: &mut Sheet) -> Result
         "line" => put_made(out, in_one_line(alloc, text)),
         "reason" => put_made(out, reason_text(alloc, text)),
         "spaced" => put_spaced(alloc, text, out),
+        "time" => put_moment(out, read_time(text)),
+        "tags" => put_moment(out, tag_time(text)),
         _ => return Err(Wrong::Word),
     }
     Ok(())

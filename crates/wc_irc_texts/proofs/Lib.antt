@@ -1,8 +1,10 @@
 pub mod CapabilityLemmas
 pub mod FeatureLemmas
 pub mod ListedLemmas
+pub mod MomentLemmas
 pub mod ParamLemmas
 pub mod PartLemmas
 pub mod PieceLemmas
 pub mod SaslLemmas
+pub mod TagLemmas
 pub mod TextLemmas

@@ -3,25 +3,36 @@ use Rattle.std.proofs.Common.{◌≡◌, ℕ, suc, ◌+◌, ◌-◌, ◌≤◌, 
 use Rattle.std.specs.Prelude.{◌&&◌, ◌||◌, ◌==◌, not, slice_index_or, IfSome, is_some}
 use Rattle.std.specs.Borrow.{Bor}
 use Rattle.std.specs.Option.{option_copied}
-use Rattle.std.specs.List.{onto_first, list_all, list_any}
+use Rattle.std.specs.List.{onto_first, slice_split, list_all, list_any}
 use Rattle.std.proofs.lemmas.Bool.{and_parts, and_from}
 use Rattle.wc_text.specs.Splits.{before, onward, text_after, past, word_of, rest_of}
 use Rattle.wc_ircmsg.specs.Written.{ends_lines, is_one_line, needs_colon}
 use Rattle.wc_irc_texts.specs.Pieces.{pieces, pieces_left, is_bare, is_bare_left, length_left}
 use Rattle.wc_irc_texts.specs.Texts.{in_one_line}
 
+-- what a byte parts of what comes after it
+abbrev pub split_after : ℕ → Option (List ℕ) → List (List ℕ)
+split_after mark None = []
+split_after mark (Some text) = slice_split (λ b. b == mark) text
+
+-- the first part ends at the first such byte
+pub split_first : (mark : ℕ) (text : List ℕ) → slice_split (λ b. b == mark) text ≡ before mark text ∷ split_after mark (text_after mark text)
+split_first mark [] = refl
+split_first mark (b ∷ text) = by (b == mark) (split_first mark text) where
+  parts : List (List ℕ)
+  parts = slice_split (λ c. c == mark) text
+
+  by : (t : Bool) → parts ≡ before mark text ∷ split_after mark (text_after mark text)
+      → cond t ([] ∷ parts) (onto_first b parts) ≡ cond t [] (b ∷ before mark text) ∷ split_after mark (cond t (Some text) (text_after mark text))
+  by true ih = refl
+  by false ih = ap (onto_first b) ih
+
 abbrev pub pieces_after : Option (List ℕ) → List (List ℕ)
-pieces_after None = []
-pieces_after (Some text) = pieces text
+pieces_after text = split_after 44 text
 
 -- the first piece ends at the first comma
 pub pieces_first : (text : List ℕ) → pieces text ≡ before 44 text ∷ pieces_after (text_after 44 text)
-pieces_first [] = refl
-pieces_first (b ∷ text) = by (b == 44) (pieces_first text) where
-  by : (t : Bool) → pieces text ≡ before 44 text ∷ pieces_after (text_after 44 text)
-      → cond t ([] ∷ pieces text) (onto_first b (pieces text)) ≡ cond t [] (b ∷ before 44 text) ∷ pieces_after (cond t (Some text) (text_after 44 text))
-  by true ih = refl
-  by false ih = ap (onto_first b) ih
+pieces_first text = split_first 44 text
 
 left_copied : (o : Option (Bor (List ℕ))) → pieces_left o ≡ pieces_after (option_copied o)
 left_copied None = refl

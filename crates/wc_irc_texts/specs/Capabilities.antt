@@ -32,7 +32,8 @@ is_offered name text = list_any (is_offer name) (words_of text)
 unfoldable pub known : List (List ℕ)
 known = codes "multi-prefix" ∷ codes "extended-join" ∷ codes "away-notify" ∷ codes "account-notify"
     ∷ codes "chghost" ∷ codes "setname" ∷ codes "message-tags"
-    ∷ codes "userhost-in-names" ∷ codes "invite-notify" ∷ []
+    ∷ codes "userhost-in-names" ∷ codes "invite-notify"
+    ∷ codes "server-time" ∷ []
 
 -- `sasl` where there is a login, and after it those that the words of an option name
 abbrev pub wished_names : Bool → List ℕ → List (List ℕ)

@@ -7,6 +7,7 @@ pub mod LoginSteps
 pub mod ModeBits
 pub mod Modes
 pub mod ModesSeen
+pub mod Moments
 pub mod Names
 pub mod Negotiation
 pub mod Parts
@@ -15,5 +16,6 @@ pub mod Rows
 pub mod Sasl
 pub mod Speech
 pub mod Statuses
+pub mod Tags
 pub mod Texts
 pub mod TextsSeen

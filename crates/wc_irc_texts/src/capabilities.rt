@@ -16,7 +16,7 @@ pub const SASL: &[u8] = b"sasl";
 const PLAIN: &[u8] = b"PLAIN";
 
 /// How many capabilities are known beside it.
-const COUNT: usize = 9;
+const COUNT: usize = 10;
 
 /// Those that may be asked for: this program reads rightly what each of them changes.
 const KNOWN: [&[u8]; COUNT] = [
@@ -29,6 +29,7 @@ const KNOWN: [&[u8]; COUNT] = [
     b"message-tags",
     b"userhost-in-names",
     b"invite-notify",
+    b"server-time",
 ];
 
 /// Whether a name is one of these.

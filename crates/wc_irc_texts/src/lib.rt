@@ -12,6 +12,7 @@ mod line_text;
 mod listed;
 mod login_step;
 mod modes;
+mod moment;
 mod names;
 mod negotiation;
 mod params;
@@ -20,6 +21,7 @@ mod sasl;
 mod seat;
 mod speech;
 mod statuses;
+mod tags;
 
 pub use features::Features;
 pub use formatting::plain;
@@ -30,6 +32,7 @@ pub use line_text::{in_one_line, joined, reason_text, source_text, spaced, unquo
 pub use listed::{ListedName, listed_name};
 pub use login_step::{LoginStep, Stage};
 pub use modes::{ModeChange, mode_changes};
+pub use moment::{Moment, read_time};
 pub use names::{LONGEST_NICK, is_channel, is_nick, is_same};
 pub use negotiation::{Negotiation, has_sasl};
 pub use params::{last_param, param, params_from};
@@ -38,3 +41,4 @@ pub use sasl::login_pieces;
 pub use seat::{ModeSet, Seat};
 pub use speech::calls_nick;
 pub use statuses::{status_sign, whole_channel};
+pub use tags::tag_time;

@@ -4,7 +4,7 @@ use Rattle.std.proofs.lemmas.Bool.Decides.{Decides-eqb}
 use Rattle.wc_text.specs.Splits.{before, onward, past, begins_with, BeginsWithout, WordAndRest, word_of, rest_of}
 use Rattle.wc_ircmsg.specs.Words.{Marked}
 use Rattle.wc_ircmsg.specs.Sources.{or_empty}
-use Rattle.wc_ircmsg.specs.Answers.{after_marked, marked_word, untagged_of, source_of, call_of}
+use Rattle.wc_ircmsg.specs.Answers.{after_marked, marked_word, tags_of, untagged_of, source_of, call_of}
 use Rattle.wc_ircmsg.specs.Grammar.{Front}
 use Rattle.wc_text.proofs.SplitLemmas.{length-onward}
 use Rattle.wc_text.proofs.WordLemmas.{other_byte, same_byte, byte_differs, past-blanks, past-bare, BeginsWithout-past, margin, WordAndRest-same, WordAndRest-made}
@@ -38,17 +38,18 @@ Marked-made mark (b ∷ text) solid = by (eqb b mark) refl where
   by false e = (None, (byte_differs b mark e, refl), refl)
 
 -- the front of a text is the one that is computed
-pub Front-same : (text source call : List ℕ) → Front text source call → (source ≡ source_of text) × (call ≡ call_of text)
-unfolding untagged_of source_of call_of
-Front-same text source call front =
+pub Front-same : (text told source call : List ℕ) → Front text told source call → (source ≡ source_of text) × (call ≡ call_of text) × (told ≡ tags_of text)
+unfolding tags_of untagged_of source_of call_of
+Front-same text told source call front =
     let body : front.body ≡ past 32 text = sym (ap (past 32) front.spelled ∙ past-blanks front.margin front.body ∙ past-bare 32 front.body front.bare) in
-    let untagged : front.untagged ≡ untagged_of text = (Marked-same 64 front.body front.untagged front.tags front.tagged).1 ∙ ap (after_marked 64) body in
+    let tagged = Marked-same 64 front.body front.untagged front.tags front.tagged in
+    let untagged : front.untagged ≡ untagged_of text = tagged.1 ∙ ap (after_marked 64) body in
     let prefixed = Marked-same 58 front.untagged call front.prefix front.prefixed in
-    (front.source_is ∙ prefixed.0 ∙ ap (marked_word 58) untagged, prefixed.1 ∙ ap (after_marked 58) untagged)
+    (front.source_is ∙ prefixed.0 ∙ ap (marked_word 58) untagged, prefixed.1 ∙ ap (after_marked 58) untagged, front.told_is ∙ tagged.0 ∙ ap (marked_word 64) body)
 
 -- each text has this front
-pub Front-made : (text : List ℕ) → Front text (source_of text) (call_of text)
-unfolding untagged_of source_of call_of
+pub Front-made : (text : List ℕ) → Front text (tags_of text) (source_of text) (call_of text)
+unfolding tags_of untagged_of source_of call_of
 Front-made text =
     let front = margin text in
     let tags = Marked-made 64 (past 32 text) (λ e. absurd (omega arith)) in
@@ -61,6 +62,7 @@ Front-made text =
       tags = tags.0;
       untagged = untagged_of text;
       tagged = tags.1;
+      told_is = tags.2;
       prefix = prefix.0;
       prefixed = prefix.1;
       source_is = prefix.2;

@@ -10,34 +10,34 @@ use Rattle.wc_ircmsg.specs.Sources.{Names}
 use Rattle.wc_ircmsg.specs.Params.{SpellsParams}
 use Rattle.wc_ircmsg.specs.Grammar.{SpellsLine, IsBlank, RefusesLine, ReadsLine}
 use Rattle.wc_text.specs.Lossy.{lossy_of}
-use Rattle.wc_ircmsg.specs.Answers.{source_of, call_of, message_from, refusal_of, reading_of, untagged_of, after_marked}
+use Rattle.wc_ircmsg.specs.Answers.{tags_of, source_of, call_of, message_from, refusal_of, reading_of, untagged_of, after_marked}
 use Rattle.wc_text.proofs.WordLemmas.{past-blanks, margin, WordAndRest-same, WordAndRest-made}
 use Rattle.wc_ircmsg.proofs.FrontLemmas.{Front-same, Front-made, length-call_of}
 use Rattle.wc_ircmsg.proofs.SourceLemmas.{Names-same, Names-made}
 use Rattle.wc_ircmsg.proofs.ParamLemmas.{SpellsParams-same, SpellsParams-made}
 
 -- a message with these parts is the one that is computed of them
-message_from-same : (source rest : List ℕ) (message : Message) → Names source message.nick message.user message.host → SpellsParams 15 rest message.params → message_from source message.command rest ≡ message
+message_from-same : (source rest : List ℕ) (message : Message) → Names source message.nick message.user message.host → SpellsParams 15 rest message.params → message_from message.tags source message.command rest ≡ message
 unfolding message_from
 message_from-same source rest message named params =
     let names = Names-same source message.nick message.user message.host named in
     let list = SpellsParams-same 15 rest message.params params in
-    λ k. record { nick = sym names.0 k; user = sym names.1 k; host = sym names.2 k; command = message.command; params = sym list k }
+    λ k. record { tags = message.tags; nick = sym names.0 k; user = sym names.1 k; host = sym names.2 k; command = message.command; params = sym list k }
 
 pub SpellsLine-reading : (text : List ℕ) (message : Message) → SpellsLine text message → reading_of text ≡ Ok message
 unfolding reading_of
 SpellsLine-reading text message spells =
-    let front = Front-same text spells.source spells.call spells.front in
+    let front = Front-same text message.tags spells.source spells.call spells.front in
     let called = WordAndRest-same spells.call message.command spells.rest spells.called in
     let command : word_of (call_of text) ≡ message.command = sym (called.0 ∙ ap word_of front.1) in
     let rest : rest_of (call_of text) ≡ spells.rest = sym (called.1 ∙ ap rest_of front.1) in
     let readable : is_command (word_of (call_of text)) ≡ true = ap is_command command ∙ spells.readable in
-    ap (λ t. cond t (Ok (message_from (source_of text) (word_of (call_of text)) (rest_of (call_of text)))) (Err (refusal_of text))) readable
-    ∙ (λ k. Ok (message_from (sym front.0 k) (command k) (rest k)))
+    ap (λ t. cond t (Ok (message_from (tags_of text) (source_of text) (word_of (call_of text)) (rest_of (call_of text)))) (Err (refusal_of text))) readable
+    ∙ (λ k. Ok (message_from (sym front.2 k) (sym front.0 k) (command k) (rest k)))
     ∙ ap Ok (message_from-same spells.source spells.rest message spells.named spells.params)
 
 -- the message of a text whose command is readable
-spelled : (text : List ℕ) → is_command (word_of (call_of text)) ≡ true → SpellsLine text (message_from (source_of text) (word_of (call_of text)) (rest_of (call_of text)))
+spelled : (text : List ℕ) → is_command (word_of (call_of text)) ≡ true → SpellsLine text (message_from (tags_of text) (source_of text) (word_of (call_of text)) (rest_of (call_of text)))
 unfolding message_from
 spelled text readable = record {
   source = source_of text;
@@ -54,7 +54,7 @@ pub reading-SpellsLine : (text : List ℕ) (message : Message) → reading_of te
 unfolding reading_of
 reading-SpellsLine text message is = by (is_command (word_of (call_of text))) refl is where
   made : Message
-  made = message_from (source_of text) (word_of (call_of text)) (rest_of (call_of text))
+  made = message_from (tags_of text) (source_of text) (word_of (call_of text)) (rest_of (call_of text))
 
   by : (t : Bool) → is_command (word_of (call_of text)) ≡ t → cond t (Ok made) (Err (refusal_of text)) ≡ Ok message → SpellsLine text message
   by true e here = let same : made ≡ message = cc in subst (λ m. SpellsLine text m) same (spelled text e)
@@ -94,7 +94,7 @@ blank-call text none = ap (λ t. after_marked 58 (after_marked 64 t)) none
 -- a text whose command is unreadable
 refused_by : (text : List ℕ) → is_command (word_of (call_of text)) ≡ false → reading_of text ≡ Err (refusal_of text)
 unfolding reading_of
-refused_by text unreadable = ap (λ t. cond t (Ok (message_from (source_of text) (word_of (call_of text)) (rest_of (call_of text)))) (Err (refusal_of text))) unreadable
+refused_by text unreadable = ap (λ t. cond t (Ok (message_from (tags_of text) (source_of text) (word_of (call_of text)) (rest_of (call_of text)))) (Err (refusal_of text))) unreadable
 
 pub refusal_of-blank : (text : List ℕ) → past 32 text ≡ [] → refusal_of text ≡ Refusals.Empty
 unfolding refusal_of
@@ -109,7 +109,7 @@ RefusesLine-reading text Refusals.Empty blank =
     let none = blank-past text blank in
     refused_by text (ap (λ t. is_command (word_of t)) (blank-call text none)) ∙ ap Err (refusal_of-blank text none)
 RefusesLine-reading text (Refusals.BadCommand place) lacks =
-    let front = Front-same text lacks.source lacks.call lacks.front in
+    let front = Front-same text lacks.tags lacks.source lacks.call lacks.front in
     let word : word_of (call_of text) ≡ lacks.word = sym ((WordAndRest-same lacks.call lacks.word lacks.rest lacks.called).0 ∙ ap word_of front.1) in
     let same : length lacks.call ≡ length (call_of text) = ap length front.1 in
     let is : length text - length (call_of text) ≡ place = omega (arith, lacks.place_is, length-call_of text) in
@@ -123,6 +123,7 @@ refuses text unreadable = by (is_filled (past 32 text)) refl where
   by : (t : Bool) → is_filled (past 32 text) ≡ t → RefusesLine text (cond t (Refusals.BadCommand (length text - length (call_of text))) Refusals.Empty)
   by true e = record {
     filled = λ blank. some-filled (past 32 text) e (blank-past text blank);
+    tags = tags_of text;
     source = source_of text;
     call = call_of text;
     word = word_of (call_of text);
@@ -138,7 +139,7 @@ pub reading-RefusesLine : (text : List ℕ) (refused : LineRefused) → reading_
 unfolding reading_of
 reading-RefusesLine text refused is = by (is_command (word_of (call_of text))) refl is where
   made : Message
-  made = message_from (source_of text) (word_of (call_of text)) (rest_of (call_of text))
+  made = message_from (tags_of text) (source_of text) (word_of (call_of text)) (rest_of (call_of text))
 
   by : (t : Bool) → is_command (word_of (call_of text)) ≡ t → cond t (Ok made) (Err (refusal_of text)) ≡ Err refused → RefusesLine text refused
   by true e here = absurd (cc)

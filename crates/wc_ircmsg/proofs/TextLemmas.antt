@@ -33,12 +33,12 @@ marked_text mark text rest (Some word) small parts utf8 =
     let cut = parts_text text (mark ∷ word) rest parts utf8 in
     ((utf8_parts [] mark word small cut.0).1, cut.1)
 
-front_text : (text source call : List ℕ) → Front text source call → IsUtf8 text → IsUtf8 source × IsUtf8 call
-front_text text source call front utf8 =
+front_text : (text told source call : List ℕ) → Front text told source call → IsUtf8 text → IsUtf8 source × IsUtf8 call × IsUtf8 told
+front_text text told source call front utf8 =
     let body = after_blanks_text front.margin front.body (subst IsUtf8 front.spelled utf8) in
-    let untagged = (marked_text 64 front.body front.untagged front.tags (omega arith) front.tagged body).1 in
-    let prefixed = marked_text 58 front.untagged call front.prefix (omega arith) front.prefixed untagged in
-    (subst IsUtf8 (sym front.source_is) prefixed.0, prefixed.1)
+    let tagged = marked_text 64 front.body front.untagged front.tags (omega arith) front.tagged body in
+    let prefixed = marked_text 58 front.untagged call front.prefix (omega arith) front.prefixed tagged.1 in
+    (subst IsUtf8 (sym front.source_is) prefixed.0, prefixed.1, subst IsUtf8 (sym front.told_is) tagged.0)
 
 -- a text, and what a mark parts from it
 after_mark_text : (mark : ℕ) (front : List ℕ) (text : Option (List ℕ)) → mark < 128 → IsUtf8 (front ++ text_with_mark mark text) → IsUtf8 front × IsUtf8 (or_empty text)
@@ -69,10 +69,11 @@ params_text (suc more) text (param ∷ params) (rest, first, others) utf8 =
 
 SpellsLine-text : (text : List ℕ) (message : Message) → SpellsLine text message → IsUtf8 text → MessageIsUtf8 message
 SpellsLine-text text message spells utf8 =
-    let front = front_text text spells.source spells.call spells.front utf8 in
+    let front = front_text text message.tags spells.source spells.call spells.front utf8 in
     let names = names_text spells.source message.nick message.user message.host spells.named front.0 in
     let called = parts_text spells.call message.command spells.rest spells.called front.1 in
     record {
+      tags = front.2;
       nick = names.0;
       user = names.1;
       host = names.2;

@@ -141,6 +141,7 @@ SpellsLine-written message writable =
         tags = None;
         untagged = line;
         tagged = (BeginsWithout-signs 64 message.command (params_text message.params) refl some signs, refl);
+        told_is = refl;
         prefix = None;
         prefixed = (BeginsWithout-signs 58 message.command (params_text message.params) refl some signs, refl);
         source_is = refl;

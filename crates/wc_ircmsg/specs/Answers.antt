@@ -16,6 +16,9 @@ after_marked mark text = if begins_with mark text then rest_of text else text
 abbrev pub marked_word : ℕ → List ℕ → List ℕ
 marked_word mark text = if begins_with mark text then drop 1 (word_of text) else []
 
+unfoldable pub tags_of : List ℕ → List ℕ
+tags_of text = marked_word 64 (past 32 text)
+
 unfoldable pub untagged_of : List ℕ → List ℕ
 untagged_of text = after_marked 64 (past 32 text)
 
@@ -26,8 +29,9 @@ unfoldable pub call_of : List ℕ → List ℕ
 call_of text = after_marked 58 (untagged_of text)
 
 -- the message with these parts
-unfoldable pub message_from : List ℕ → List ℕ → List ℕ → Message
-message_from source command rest = record {
+unfoldable pub message_from : List ℕ → List ℕ → List ℕ → List ℕ → Message
+message_from tags source command rest = record {
+  tags = tags;
   nick = nick_of source;
   user = user_of source;
   host = host_of source;
@@ -43,5 +47,6 @@ refusal_of text = if is_filled (past 32 text)
 unfoldable pub reading_of : List ℕ → Result Message LineRefused
 reading_of text =
     if is_command (word_of (call_of text))
-    then Ok (message_from (source_of text) (word_of (call_of text)) (rest_of (call_of text)))
+    then Ok (message_from (tags_of text) (source_of text) (word_of (call_of text))
+    (rest_of (call_of text)))
     else Err (refusal_of text)

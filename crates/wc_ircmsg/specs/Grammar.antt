@@ -11,9 +11,8 @@ use Rattle.wc_ircmsg.specs.Sources.{or_empty, Names}
 use Rattle.wc_ircmsg.specs.Params.{SpellsParams}
 
 -- What is before the command: blanks, a first word of tags or none, which `@` marks, and a prefix
--- or none, which
--- `:` marks and which names the source. The call is what follows.
-pub record Front (text source call : List ℕ) : Type 0 where
+-- or none, which `:` marks and which names the source. The call is what follows.
+pub record Front (text told source call : List ℕ) : Type 0 where
   pub margin : ℕ
   pub body : List ℕ
   pub spelled : text ≡ blanks margin ++ body
@@ -21,6 +20,7 @@ pub record Front (text source call : List ℕ) : Type 0 where
   pub tags : Option (List ℕ)
   pub untagged : List ℕ
   pub tagged : Marked 64 body tags untagged
+  pub told_is : told ≡ or_empty tags
   pub prefix : Option (List ℕ)
   pub prefixed : Marked 58 untagged prefix call
   pub source_is : source ≡ or_empty prefix
@@ -30,7 +30,7 @@ pub record SpellsLine (text : List ℕ) (message : Message) : Type 0 where
   pub source : List ℕ
   pub call : List ℕ
   pub rest : List ℕ
-  pub front : Front text source call
+  pub front : Front text message.tags source call
   pub named : Names source message.nick message.user message.host
   pub called : WordAndRest call message.command rest
   pub readable : IsTrue (is_command message.command)
@@ -43,11 +43,12 @@ IsBlank text = (n : ℕ) × (text ≡ blanks n)
 -- A text that is not blank has no command at this place, which is where its call begins.
 pub record LacksCommand (text : List ℕ) (place : ℕ) : Type 0 where
   pub filled : IsBlank text → ⊥
+  pub tags : List ℕ
   pub source : List ℕ
   pub call : List ℕ
   pub word : List ℕ
   pub rest : List ℕ
-  pub front : Front text source call
+  pub front : Front text tags source call
   pub called : WordAndRest call word rest
   pub unreadable : is_command word ≡ false
   pub place_is : place + length call ≡ length text

@@ -9,6 +9,7 @@ AreUtf8Texts (text ∷ texts) = IsUtf8 text × AreUtf8Texts texts
 
 -- each text of a message is UTF-8
 pub record MessageIsUtf8 (message : Message) : Type 0 where
+  pub tags : IsUtf8 message.tags
   pub nick : IsUtf8 message.nick
   pub user : IsUtf8 message.user
   pub host : IsUtf8 message.host

@@ -41,12 +41,13 @@ params_text [] = []
 params_text (param ∷ []) = 32 ∷ last_text param
 params_text (param ∷ next ∷ params) = 32 ∷ (param ++ params_text (next ∷ params))
 
--- the command and the parameters, without a prefix
+-- the command and the parameters, without tags and a prefix
 abbrev pub line_of : Message → List ℕ
 line_of message = message.command ++ params_text message.params
 
 abbrev pub without_prefix : Message → Message
 without_prefix message = record {
+  tags = [];
   nick = [];
   user = [];
   host = [];

@@ -6,6 +6,8 @@ use wc_text::{Items, NoMemory, Text};
 /// A message of the IRC protocol, as RFC 1459 and RFC 2812 have it.
 #[derive(Drop)]
 pub struct Message {
+    /// The first word without its `@`, where it has one. Empty where there are no tags.
+    pub tags: Text,
     /// The nick of the prefix, or the name of a server. Empty where there is none.
     pub nick: Text,
     /// The user of the prefix. Empty where there is none.

@@ -1,7 +1,8 @@
 ghost use Rattle.std.specs.Prelude.{◌≡◌, ◌≢◌, ◌↔◌, ◌⊎◌, ℕ, List, Ok, Err, IfOk, IfErr};
 ghost use Rattle.std.specs.Prelude.{length};
 ghost use Rattle.wc_text.specs.Lossy.{lossy_of};
-ghost use Rattle.wc_ircmsg.specs.Answers.{source_of, call_of, message_from, refusal_of, reading_of};
+ghost use Rattle.wc_ircmsg.specs.Answers.{tags_of, source_of, call_of, message_from, refusal_of};
+ghost use Rattle.wc_ircmsg.specs.Answers.{reading_of};
 ghost use Rattle.wc_ircmsg.specs.Grammar.{SpellsLine, RefusesLine, ReadsLine};
 ghost use Rattle.wc_ircmsg.specs.Utf8.{MessageIsUtf8};
 ghost use Rattle.wc_ircmsg.specs.Written.{IsWritable, line_of, without_prefix};
@@ -16,34 +17,46 @@ use crate::source::cut_source;
 use std::alloc::Global;
 use wc_text::{NoMemory, Text, cut_word, lossy, past_blanks};
 
-/// The prefix at the front of a text, without its `:`, and from the command on. Tags are passed
-/// over.
+/// The tags at the front of a text, without their `@`, the prefix, without its `:`, and from the
+/// command on.
 #[rattlefmt::skip]
 #[tactic(auto, unfolding(
+    crate::specs::Answers::tags_of,
     crate::specs::Answers::source_of,
     crate::specs::Answers::call_of,
     crate::specs::Answers::untagged_of
 ))]
-fn cut_front(text: &[u8]) -> (&[u8], &[u8])
-    ensures source { result.0.now ≡ source_of text.now }
-    ensures call { result.1.now ≡ call_of text.now }
+fn cut_front(text: &[u8]) -> (&[u8], &[u8], &[u8])
+    ensures tags { result.0.now ≡ tags_of text.now }
+    ensures source { result.1.now ≡ source_of text.now }
+    ensures call { result.2.now ≡ call_of text.now }
 {
-    let (_, untagged) = cut_marked(past_blanks(text), b'@');
-    cut_marked(untagged, b':')
+    let (tags, untagged) = cut_marked(past_blanks(text), b'@');
+    let (prefix, call) = cut_marked(untagged, b':');
+    (tags, prefix, call)
 }
 
 /// The message with these parts.
 #[tactic(auto, unfolding(crate::specs::Answers::message_from))]
-fn message(alloc: Global, prefix: &[u8], command: &[u8], rest: &[u8]) -> Result<Message, NoMemory>
-    ensures { IfOk result (λ message. message ≡ message_from prefix.now command.now rest.now) }
+fn message(
+    alloc: Global,
+    tags: &[u8],
+    prefix: &[u8],
+    command: &[u8],
+    rest: &[u8],
+) -> Result<Message, NoMemory>
+    ensures { IfOk result (λ message. message
+        ≡ message_from tags.now prefix.now command.now rest.now) }
 {
     let source = cut_source(prefix);
+    let tags = Text::from_slice(alloc, tags)?;
     let nick = Text::from_slice(alloc, source.nick)?;
     let user = Text::from_slice(alloc, source.user)?;
     let host = Text::from_slice(alloc, source.host)?;
     let command = Text::from_slice(alloc, command)?;
     let params = read_params(alloc, rest)?;
     Ok(Message {
+        tags,
         nick,
         user,
         host,
@@ -72,19 +85,19 @@ fn read_text(alloc: Global, text: &[u8]) -> Result<Message, LineRefused>
     ensures refused { IfErr result (λ refused. refused ≢ LineRefused.NoMemory → reading_of text.now
         ≡ Err refused) }
 {
-    let (prefix, call) = cut_front(text);
+    let (tags, prefix, call) = cut_front(text);
     let (command, rest) = cut_word(call);
     if !is_command(command) {
         return Err(refusal(text, call));
     }
-    Ok(message(alloc, prefix, command, rest)?)
+    Ok(message(alloc, tags, prefix, command, rest)?)
 }
 
 /// The message that a line spells in the grammar of RFC 1459 and RFC 2812. The line comes without
 /// its CR LF, and its bytes are made UTF-8 by `lossy` first.
 ///
 /// Blanks may be in front, and where one has to be there may be more. A first word that begins
-/// with `@`, the tags, is passed over. Of a prefix the nick goes up to the first `!` or `@`, the
+/// with `@` has the tags. Of a prefix the nick goes up to the first `!` or `@`, the
 /// user up to the first `@`. A parameter after a `:` takes the rest of the line, and so does the
 /// fifteenth without one.
 ///

@@ -9,6 +9,8 @@ use Rattle.wc_text.specs.declared.names.Cause.TheVariants as cause
 use Rattle.wc_ircmsg.specs.declared.case_map.CaseMap.{CaseMap}
 use Rattle.wc_ircmsg.specs.declared.message.Message.{Message}
 use Rattle.wc_ircmsg.specs.declared.prefixes.Prefixes.{Prefixes}
+use Rattle.wc_model.specs.declared.change.What.{What}
+use Rattle.wc_model.specs.declared.change.What.TheVariants as what
 use Rattle.wc_irc.specs.declared.act.Act.{Act}
 use Rattle.wc_irc.specs.declared.act.Act.TheVariants as act
 use Rattle.wc_irc.specs.Autojoin.{autojoin_lines}
@@ -18,6 +20,7 @@ use Rattle.wc_irc.specs.ChannelStates.{channel_at, may_have}
 use Rattle.wc_irc.specs.Lines.{printed, full_tags}
 use Rattle.wc_irc.specs.LoginActs.{end_act, asking_act, failure_act, refusal_act, acts_of_step}
 use Rattle.wc_irc.specs.ModeActs.{same_place, moved, modes_after, change_acts, with_change, changes_acts, mode_moves, mode_line, mode_on, mode_acts}
+use Rattle.wc_irc.specs.Dates.{moment_of, dated, dated_what, dated_acts}
 use Rattle.wc_irc.specs.InviteActs.{is_of_another, invite_on}
 use Rattle.wc_irc.specs.NameActs.{placed, placed_all, seats_in, names_in, names_on, names_acts}
 use Rattle.wc_irc.specs.NewBuffers.{opened, name_or}
@@ -34,6 +37,7 @@ use Rattle.wc_irc_texts.specs.declared.kind.MessageKind.{MessageKind}
 use Rattle.wc_irc_texts.specs.declared.kind.MessageKind.TheVariants as kind
 use Rattle.wc_irc_texts.specs.declared.login_step.LoginStep.{LoginStep}
 use Rattle.wc_irc_texts.specs.declared.login_step.LoginStep.TheVariants as steps
+use Rattle.wc_irc_texts.specs.declared.moment.Moment.{Moment}
 use Rattle.wc_irc_texts.specs.declared.negotiation.Negotiation.{Negotiation}
 use Rattle.wc_irc_texts.specs.declared.seat.Seat.{Seat}
 use Rattle.wc_irc_texts.specs.Groups.{group_names}
@@ -45,7 +49,7 @@ use Rattle.wc_irc_texts.specs.Rows.{param, params_from, last_param}
 use Rattle.wc_irc_texts.specs.Sasl.{login_pieces}
 use Rattle.wc_irc_texts.specs.Speech.{calls_nick}
 use Rattle.wc_irc_texts.specs.Texts.{plain}
-use Rattle.wc_mirror_laws.proofs.MildLemmas.{IsMildAct, AreMild, mild_said, mild_both, mild_if, mild_map, mild_each, mild_found}
+use Rattle.wc_mirror_laws.proofs.MildLemmas.{IsMild, IsMildAct, AreMild, mild_said, mild_both, mild_if, mild_map, mild_each, mild_found}
 
 -- ---- lines and buffers
 
@@ -265,5 +269,24 @@ mild_kind groups s m kind.Error = mild_line (server_buffer s.name) _ _ _
 mild_kind groups s m kind.Invite = mild_if (is_of_another s m) (on_found (found groups s (param 1 m)) (invite_on m)) (other_acts s m) (mild_found (found groups s (param 1 m)) (invite_on m) (λ buffer. mild_line buffer _ _ _)) (mild_line (server_buffer s.name) _ _ _)
 mild_kind groups s m kind.Other = mild_step s m (login_step s.negotiation m)
 
+-- ---- dates
+
+mild_dated_what : (moment : Moment) (w : What) → IsMild w → IsMild (dated_what moment w)
+mild_dated_what moment (what.Print line) mild = mild
+mild_dated_what moment (what.Add spec) mild = mild
+mild_dated_what moment w mild = mild
+
+mild_dated_all : (moment : Moment) (acts : List Act) → AreMild acts → AreMild (map (dated moment) acts)
+mild_dated_all moment [] mild = tt
+mild_dated_all moment (act.Open spec ∷ acts) mild = (tt, mild_dated_all moment acts mild.1)
+mild_dated_all moment (act.On full_name change ∷ acts) mild = (mild_dated_what moment change mild.0, mild_dated_all moment acts mild.1)
+mild_dated_all moment (act.Send line ∷ acts) mild = (tt, mild_dated_all moment acts mild.1)
+mild_dated_all moment (act.Raise signal payload ∷ acts) mild = (tt, mild_dated_all moment acts mild.1)
+mild_dated_all moment (act.Leave why ∷ acts) mild = (tt, mild_dated_all moment acts mild.1)
+
+mild_dated : (moment : Option Moment) (acts : List Act) → AreMild acts → AreMild (dated_acts moment acts)
+mild_dated None acts mild = mild
+mild_dated (Some moment) acts mild = mild_dated_all moment acts mild
+
 pub mild_message : (groups : EntryGroups) (s : ServerState) (m : Message) → AreMild (acts_of_server groups s m)
-mild_message groups s m = mild_kind groups s m (kind_to s m)
+mild_message groups s m = mild_dated (moment_of s m) (acts_of_kind groups s m (kind_to s m)) (mild_kind groups s m (kind_to s m))

@@ -73,6 +73,7 @@ fn message(alloc: Global, rest: &str) -> Result<Message, Wrong> {
     let command = unescape(alloc, command)?;
     let params = params(alloc, words)?;
     Ok(Message {
+        tags: Text::new(alloc),
         nick: Text::new(alloc),
         user: Text::new(alloc),
         host: Text::new(alloc),
