@@ -6,8 +6,8 @@ use Rattle.wc_irc_words.specs.declared.command_word.CommandWord.{CommandWord}
 use Rattle.wc_irc_words.specs.declared.command_word.CommandWord.TheVariants as words
 use Rattle.wc_irc_words.specs.declared.everyday.Everyday.{Everyday}
 use Rattle.wc_irc_words.specs.Everyday.{everyday_named}
-use Rattle.wc_irc_words.specs.Typed.{ServerCommand, Bids, command_of, is_called, is_either, is_target, ends_at_colon, are_mode_words}
-use Rattle.wc_irc_words.specs.TypedSeen.{asked_with, word_or, word_named, mode_words_from}
+use Rattle.wc_irc_words.specs.Typed.{ServerCommand, Bids, command_of, is_called, is_either, is_target, ends_at_colon, are_words_to}
+use Rattle.wc_irc_words.specs.TypedSeen.{asked_with, word_or, word_named, words_from}
 
 abbrev pub asked_by : Option CommandWord → List ℕ → Option ServerCommand
 asked_by None text = None
@@ -58,53 +58,53 @@ command_named name text =
     step_one (is_called name (codes "disconnect")) words.Disconnect None more text _ (bids more text)))))))))))))))
 
 -- what so many words before, which did not end them, and these make together
-abbrev all_from : ℕ → List (List ℕ) → Bool
-all_from count words = nat_lt 0 (count + length words) && (nat_le (count + length words) 15 && ends_at_colon words)
+abbrev all_from : ℕ → ℕ → List (List ℕ) → Bool
+all_from most count words = nat_lt 0 (count + length words) && (nat_le (count + length words) most && ends_at_colon words)
 
-too_many : (count n : ℕ) (rest ends : Bool) → eqb count 15 ≡ true → false ≡ (nat_lt 0 (count + suc n) && (nat_le (count + suc n) 15 && ends))
-too_many count n rest ends full =
-    let over : nat_le (count + suc n) 15 ≡ false = grind (arith, nat_tests) in
+too_many : (most count n : ℕ) (rest ends : Bool) → eqb count most ≡ true → false ≡ (nat_lt 0 (count + suc n) && (nat_le (count + suc n) most && ends))
+too_many most count n rest ends full =
+    let over : nat_le (count + suc n) most ≡ false = grind (arith, nat_tests) in
     sym (ap (λ t. nat_lt 0 (count + suc n) && (t && ends)) over ∙ and_false (nat_lt 0 (count + suc n))) where
       and_false : (b : Bool) → (b && false) ≡ false
       and_false true = refl
       and_false false = refl
 
-none_after : (count : ℕ) → count ≤ 15 → nat_lt 0 count ≡ all_from count []
-none_after count few = grind (arith, nat_tests)
+none_after : (most count : ℕ) → count ≤ most → nat_lt 0 count ≡ all_from most count []
+none_after most count few = grind (arith, nat_tests)
 
-last_word : (count : ℕ) (word : List ℕ) → count ≤ 15 → mode_words_from count false (word ∷ []) ≡ all_from count (word ∷ [])
-last_word count word few = by (eqb count 15) refl where
-  by : (t : Bool) → eqb count 15 ≡ t → (not t && nat_lt 0 (suc count)) ≡ (nat_lt 0 (count + 1) && (nat_le (count + 1) 15 && true))
-  by true full = too_many count 0 true true full
-  by false free = let more : count < 15 = grind (arith, nat_tests) in grind (arith, nat_tests)
+last_word : (most count : ℕ) (word : List ℕ) → count ≤ most → words_from most count false (word ∷ []) ≡ all_from most count (word ∷ [])
+last_word most count word few = by (eqb count most) refl where
+  by : (t : Bool) → eqb count most ≡ t → (not t && nat_lt 0 (suc count)) ≡ (nat_lt 0 (count + 1) && (nat_le (count + 1) most && true))
+  by true full = too_many most count 0 true true full
+  by false free = let more : count < most = grind (arith, nat_tests) in grind (arith, nat_tests)
 
-more_words : (count : ℕ) (word next : List ℕ) (words : List (List ℕ)) → count ≤ 15
-    → (suc count ≤ 15 → mode_words_from (suc count) false (next ∷ words) ≡ all_from (suc count) (next ∷ words))
-    → mode_words_from count false (word ∷ next ∷ words) ≡ all_from count (word ∷ next ∷ words)
-more_words count word next words few ih = by (eqb count 15) refl (is_target word) where
-  by : (t : Bool) → eqb count 15 ≡ t → (target : Bool) → (not t && mode_words_from (suc count) (not target) (next ∷ words))
-      ≡ (nat_lt 0 (count + suc (suc (length words))) && (nat_le (count + suc (suc (length words))) 15 && (target && ends_at_colon (next ∷ words))))
-  by true full target = too_many count (suc (length words)) true (target && ends_at_colon (next ∷ words)) full
+more_words : (most count : ℕ) (word next : List ℕ) (words : List (List ℕ)) → count ≤ most
+    → (suc count ≤ most → words_from most (suc count) false (next ∷ words) ≡ all_from most (suc count) (next ∷ words))
+    → words_from most count false (word ∷ next ∷ words) ≡ all_from most count (word ∷ next ∷ words)
+more_words most count word next words few ih = by (eqb count most) refl (is_target word) where
+  by : (t : Bool) → eqb count most ≡ t → (target : Bool) → (not t && words_from most (suc count) (not target) (next ∷ words))
+      ≡ (nat_lt 0 (count + suc (suc (length words))) && (nat_le (count + suc (suc (length words))) most && (target && ends_at_colon (next ∷ words))))
+  by true full target = too_many most count (suc (length words)) true (target && ends_at_colon (next ∷ words)) full
   by false free true =
-      let more : count < 15 = grind (arith, nat_tests) in
+      let more : count < most = grind (arith, nat_tests) in
       let same : suc count + suc (length words) ≡ count + suc (suc (length words)) = omega arith in
-      ih (omega arith) ∙ ap (λ n. nat_lt 0 n && (nat_le n 15 && ends_at_colon (next ∷ words))) same
-  by false free false = sym (never (nat_lt 0 (count + suc (suc (length words)))) (nat_le (count + suc (suc (length words))) 15)) where
+      ih (omega arith) ∙ ap (λ n. nat_lt 0 n && (nat_le n most && ends_at_colon (next ∷ words))) same
+  by false free false = sym (never (nat_lt 0 (count + suc (suc (length words)))) (nat_le (count + suc (suc (length words))) most)) where
     never : (a b : Bool) → (a && (b && false)) ≡ false
     never true true = refl
     never true false = refl
     never false b = refl
 
-mode_words_more : (words : List (List ℕ)) (count : ℕ) → count ≤ 15 → mode_words_from count false words ≡ all_from count words
-mode_words_more [] count few = none_after count few
-mode_words_more (word ∷ []) count few = last_word count word few
-mode_words_more (word ∷ next ∷ words) count few = more_words count word next words few (mode_words_more (next ∷ words) (suc count))
+few_words_more : (most : ℕ) (words : List (List ℕ)) (count : ℕ) → count ≤ most → words_from most count false words ≡ all_from most count words
+few_words_more most [] count few = none_after most count few
+few_words_more most (word ∷ []) count few = last_word most count word few
+few_words_more most (word ∷ next ∷ words) count few = more_words most count word next words few (few_words_more most (next ∷ words) (suc count))
 
-pub mode_words_all : (words : List (List ℕ)) → mode_words_from 0 false words ≡ are_mode_words words
-mode_words_all words = mode_words_more words 0 (omega arith) ∙ ap (λ n. nat_lt 0 n && (nat_le n 15 && ends_at_colon words)) (none (length words)) where
+pub few_words_all : (most : ℕ) (words : List (List ℕ)) → words_from most 0 false words ≡ are_words_to most words
+few_words_all most words = few_words_more most words 0 (omega arith) ∙ ap (λ n. nat_lt 0 n && (nat_le n most && ends_at_colon words)) (none (length words)) where
   none : (n : ℕ) → 0 + n ≡ n
   none n = omega arith
 
 -- a word that may not come any more
-pub mode_words_end : (count : ℕ) (ends : Bool) (word : List ℕ) (words : List (List ℕ)) → (ends || (count == 15)) ≡ true → mode_words_from count ends (word ∷ words) ≡ false
-mode_words_end count ends word words full = ap (λ t. not t && mode_words_from (suc count) (not (is_target word)) words) full
+pub few_words_end : (most count : ℕ) (ends : Bool) (word : List ℕ) (words : List (List ℕ)) → (ends || (count == most)) ≡ true → words_from most count ends (word ∷ words) ≡ false
+few_words_end most count ends word words full = ap (λ t. not t && words_from most (suc count) (not (is_target word)) words) full

@@ -76,15 +76,22 @@ kick_command text =
     && (is_target (word_of text) || not (is_filled (rest_of text)))
     then Kicks (word_of text) (rest_of text) else Wrong (codes "kick")
 
--- ---- `/mode`: 1 to 15 words, of which the last alone may begin with `:`
+-- ---- words of which the last alone may begin with `:`
 
 abbrev pub ends_at_colon : List (List ℕ) → Bool
 ends_at_colon [] = true
 ends_at_colon (word ∷ []) = true
 ends_at_colon (word ∷ next ∷ words) = is_target word && ends_at_colon (next ∷ words)
 
+-- one such word to so many
+abbrev pub are_words_to : ℕ → List (List ℕ) → Bool
+are_words_to most words = nat_lt 0 (length words)
+    && (nat_le (length words) most && ends_at_colon words)
+
+-- ---- `/mode`: 1 to 15 of them
+
 abbrev pub are_mode_words : List (List ℕ) → Bool
-are_mode_words words = nat_lt 0 (length words) && (nat_le (length words) 15 && ends_at_colon words)
+are_mode_words words = are_words_to 15 words
 
 abbrev pub mode_command : List ℕ → ServerCommand
 mode_command text = if are_mode_words (words_of text) then SetsModes (words_of text)

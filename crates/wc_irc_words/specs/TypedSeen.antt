@@ -137,8 +137,8 @@ abbrev pub target_pair : List ℕ → Option (List ℕ × List ℕ)
 target_pair text = if is_target (word_of text) && is_filled (rest_of text)
     then Some (word_of text, rest_of text) else None
 
--- the words of `/mode` that may come after so many, where the last of these may end them
-abbrev pub mode_words_from : ℕ → Bool → List (List ℕ) → Bool
-mode_words_from count ends [] = nat_lt 0 count
-mode_words_from count ends (word ∷ words) = not (ends || (count == 15))
-    && mode_words_from (suc count) (not (is_target word)) words
+-- the words that may come after so many, where the last of these may end them
+abbrev pub words_from : ℕ → ℕ → Bool → List (List ℕ) → Bool
+words_from most count ends [] = nat_lt 0 count
+words_from most count ends (word ∷ words) = not (ends || (count == most))
+    && words_from most (suc count) (not (is_target word)) words

@@ -47,8 +47,8 @@ pub enum Form {
     WordAndText,
     /// `NICK [CHANNEL]`: `COMMAND NICK CHANNEL`, or `COMMAND NICK C`
     NickAndChannel,
-    /// One to four `NAMES`: `MODE C LETTERS NAMES`, the letter once for each name after `+`, which
-    /// is told here, or `-`
+    /// One to 100 `NAMES`: `MODE C LETTERS NAMES` for each four of them, the letter once for each
+    /// name after `+`, which is told here, or `-`
     Modes(bool, u8),
     /// `NICK [REASON]`: `MODE C +b NICK!*@*` and `KICK C NICK REASON`
     BanAndKick,

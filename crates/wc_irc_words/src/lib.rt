@@ -10,4 +10,4 @@ mod typed_words;
 pub use command_word::CommandWord;
 pub use everyday::{Everyday, Form};
 pub use typed::{ServerCommand, read_server_command};
-pub use typed_words::{are_mode_words, is_target};
+pub use typed_words::{are_few_words, are_mode_words, is_target};

@@ -1,6 +1,6 @@
 ghost use Rattle.std.specs.Option.{option_copied};
 ghost use Rattle.std.specs.Prelude.{◌≡◌, None};
-ghost use Rattle.wc_irc_words.specs.Typed.{is_target, are_mode_words, tls_words};
+ghost use Rattle.wc_irc_words.specs.Typed.{is_target, are_words_to, are_mode_words, tls_words};
 ghost use Rattle.wc_irc_words.specs.TypedSeen.{only_word, at_most_two};
 ghost use Rattle.wc_text.specs.Words.{words_of};
 
@@ -43,21 +43,28 @@ pub(crate) fn is_at_most_two(text: &[u8]) -> bool
     rest.is_empty()
 }
 
-/// Whether these are 1 to 15 words, of which the last alone may begin with `:`.
-#[tactic(auto, using(crate::proofs::TypedLemmas::mode_words_all))]
-pub fn are_mode_words(text: &[u8]) -> bool
-    ensures { result ≡ are_mode_words (words_of text.now) }
+/// Whether these are one word to so many, of which the last alone may begin with `:`.
+#[tactic(auto, using(crate::proofs::TypedLemmas::few_words_all))]
+pub fn are_few_words(text: &[u8], most: u32) -> bool
+    ensures { result ≡ are_words_to most (words_of text.now) }
 {
     let mut count = 0;
     let mut ends = false;
     for word in words(text) {
-        if ends || count == MOST_MODE_WORDS {
+        if ends || count == most {
             return false;
         }
         count += 1;
         ends = !is_target(word);
     }
     count > 0
+}
+
+/// Whether these are 1 to 15 words, of which the last alone may begin with `:`.
+pub fn are_mode_words(text: &[u8]) -> bool
+    ensures { result ≡ are_mode_words (words_of text.now) }
+{
+    are_few_words(text, MOST_MODE_WORDS)
 }
 
 /// What the words after an address say of TLS, of which the last counts. None where another word
