@@ -36,11 +36,11 @@ use Rattle.wc_irc.specs.ChannelActs.{comes, come, join_line, join_on, join_in, o
 use Rattle.wc_irc.specs.ChannelStates.{channel_at, may_have}
 use Rattle.wc_irc.specs.Channels.{Joined}
 use Rattle.wc_irc.specs.CloseActs.{disconnect_acts}
-use Rattle.wc_irc.specs.CommandActs.{Place, Errand, Refuses, Sends, Speaks, Notifies, SendsLine, Opens, SendsBoth, place_in, errand_of, if_linked, acts_of_errand, acts_of_line, linked_in, acts_of_typed, acts_of_unlinked}
+use Rattle.wc_irc.specs.CommandActs.{Place, Errand, Refuses, Sends, Speaks, Notifies, SendsLine, Opens, SendsBoth, SendsEach, place_in, errand_of, if_linked, acts_of_errand, acts_of_line, linked_in, acts_of_typed, acts_of_unlinked}
 use Rattle.wc_irc.specs.Dates.{moment_of, dated, dated_acts}
 use Rattle.wc_irc.specs.InviteActs.{is_of_another, invite_on}
 use Rattle.wc_irc.specs.LongTexts.{room_for, text_to, speech, wrapped, sent_parts, deed_room, long_speech, speech_acts, long_notice, notify_acts}
-use Rattle.wc_irc.specs.SentLines.{told_in, refusal, too_long, sent_message, fits_line, line_acts, both_acts}
+use Rattle.wc_irc.specs.SentLines.{told_in, refusal, too_long, sent_message, fits_line, line_acts, both_acts, each_acts}
 use Rattle.wc_irc.specs.LinkActs.{pass_acts, user_act, first_acts}
 use Rattle.wc_irc.specs.LoginActs.{cap_act, end_act, asking_act, failure_act, refusal_act, acts_of_step}
 use Rattle.wc_irc.specs.ModeActs.{modes_after, with_change, moved, change_acts, changes_acts, mode_moves, mode_line, mode_on, mode_acts, same_place}
@@ -397,6 +397,7 @@ errand-stays groups link (Speaks target text) = linked-stays groups link (λ s. 
 errand-stays groups link (Notifies target text) = linked-stays groups link (λ s. notify_acts groups s target text) (λ s. notify-stays groups s target text)
 errand-stays groups link (SendsLine line) = linked-stays groups link (λ s. line_acts groups line) (λ s. sent-stays groups line)
 errand-stays groups link (SendsBoth m n) = linked-stays groups link (λ s. both_acts groups (line_of m) (line_of n)) (λ s. both-stay groups (line_of m) (line_of n))
+errand-stays groups link (SendsEach ms) = linked-stays groups link (λ s. each_acts groups ms) (λ s. each (λ m. line_acts groups (line_of m)) ms (λ m. sent-stays groups (line_of m)))
 errand-stays groups link (Opens nick) = linked-stays groups link (λ s. opened (found groups s nick) (codes "private") s nick) (λ s. opening (found groups s nick) (codes "private") s nick)
 
 line-stays : (groups : EntryGroups) (link : Option ServerState) (place : Place) (line : List ℕ) → Stays (acts_in (acts_of_line groups link place line))

@@ -16,7 +16,7 @@ use Rattle.wc_irc_texts.specs.Pieces.{is_bare}
 use Rattle.wc_irc_words.specs.declared.command_word.CommandWord.{CommandWord}
 use Rattle.wc_irc_words.specs.declared.command_word.CommandWord.TheVariants as words
 use Rattle.wc_irc_words.specs.TypedSeen.{asked_with, word_named}
-use Rattle.wc_irc_words.specs.Typed.{ServerCommand, DeletesServer, Connects, Disconnects, Joins, Says, Notices, Does, Renames, SetsTopic, Kicks, SetsModes, AsksNames, Quotes, Talks, Wrong}
+use Rattle.wc_irc_words.specs.Typed.{are_words_to, ServerCommand, DeletesServer, Connects, Disconnects, Joins, Says, Notices, Does, Renames, SetsTopic, Kicks, SetsModes, AsksNames, Quotes, Talks, Wrong}
 use Rattle.wc_irc_words.specs.Typed.{without_words, one_word, some_text, is_target, join_command, query_command, query_with, target_and_text, kick_command, are_mode_words, ends_at_colon, mode_command, tls_words, adds_with, server_add, server_command, disconnect_command, command_of, slash_command, asked_of}
 use Rattle.wc_irc.proofs.LineTextLemmas.{line_word, line_rest, line_tail}
 use Rattle.wc_irc_texts.proofs.PieceLemmas.{bare_word, bare_line, no_colon}
@@ -126,15 +126,19 @@ texts_from : (texts : List (List ℕ)) → All IsUtf8 texts → AreUtf8Texts tex
 texts_from [] all = tt
 texts_from (text ∷ texts) all = (all 0 text (omega arith), texts_from texts (λ i d inside. all (suc i) d (omega arith)))
 
-pub mode_words_ready : (text : List ℕ) → IsLine text → are_mode_words (words_of text) ≡ true → AreReadyWords (words_of text)
-mode_words_ready text line e =
-    let some = and_parts (nat_lt 0 (length (words_of text))) (nat_le (length (words_of text)) 15 && ends_at_colon (words_of text)) e in
-    let parts = and_parts (nat_le (length (words_of text)) 15) (ends_at_colon (words_of text)) some.1 in
+pub words_ready : (most : ℕ) (text : List ℕ) → IsLine text → are_words_to most (words_of text) ≡ true
+    → (length (words_of text) ≤ most) × (are_words (words_of text) ≡ true) × (list_all is_one_line (words_of text) ≡ true) × AreUtf8Texts (words_of text)
+words_ready most text line e =
+    let some = and_parts (nat_lt 0 (length (words_of text))) (nat_le (length (words_of text)) most && ends_at_colon (words_of text)) e in
+    let parts = and_parts (nat_le (length (words_of text)) most) (ends_at_colon (words_of text)) some.1 in
     let bare = bare_words text line.one in
     (few (length (words_of text)) parts.0, words_sent (words_of text) bare parts.1, words_in_line (words_of text) bare, texts_from (words_of text) (words_of_utf8 text line.utf8))
   where
-    few : (n : ℕ) → nat_le n 15 ≡ true → n ≤ 15
+    few : (n : ℕ) → nat_le n most ≡ true → n ≤ most
     few n e = grind (arith, nat_tests)
+
+pub mode_words_ready : (text : List ℕ) → IsLine text → are_mode_words (words_of text) ≡ true → AreReadyWords (words_of text)
+mode_words_ready text line e = words_ready 15 text line e
 
 mode_ready : (text : List ℕ) → IsLine text → IsReady (mode_command text)
 mode_ready text line = by (are_mode_words (words_of text)) refl where

@@ -9,13 +9,14 @@ use Rattle.wc_buffers.specs.declared.row.BufferRow.{BufferRow}
 use Rattle.wc_buffers.specs.Calls.{EntryGroups, buffer_of, vars_at}
 use Rattle.wc_buffers.specs.Kept.{AreBuffers}
 use Rattle.wc_ircmsg.proofs.WriteLemmas.{ReadsLine-written, written_in_line}
+use Rattle.wc_ircmsg.specs.declared.message.Message.{Message}
 use Rattle.wc_irc.specs.declared.act.Act.{Act}
 use Rattle.wc_irc.specs.declared.act.Act.TheVariants as act
-use Rattle.wc_irc.specs.CommandActs.{Errand, Refuses, Sends, Speaks, Notifies, SendsLine, Opens, SendsBoth, Place, if_linked, acts_of_errand, errand_of, place_in, linked_in, acts_of_typed}
+use Rattle.wc_irc.specs.CommandActs.{Errand, Refuses, Sends, Speaks, Notifies, SendsLine, Opens, SendsBoth, SendsEach, Place, if_linked, acts_of_errand, errand_of, place_in, linked_in, acts_of_typed}
 use Rattle.wc_irc.specs.LongTexts.{room_for, text_to, speech, wrapped, sent_parts, deed_room, long_said, long_done, long_speech, speech_acts, long_notice, notify_acts}
-use Rattle.wc_irc.specs.SentLines.{told_in, refusal, too_long, sent_message, fits_line, line_acts, both_acts}
+use Rattle.wc_irc.specs.SentLines.{told_in, refusal, too_long, sent_message, fits_line, line_acts, both_acts, each_acts}
 use Rattle.wc_irc.specs.CommandLaws.{IsInLine, AreInLine, IsReadBack, ArePartsRead, IsTalkRead, IsSpelled, IsSpelledIn, errand_typed}
-use Rattle.wc_irc.specs.CommandSeen.{IsLine, IsLead, IsSendable, IsFit, IsFitIn, IsReadyIn, IsPlaceUtf8}
+use Rattle.wc_irc.specs.CommandSeen.{IsLine, IsLead, IsSent, IsSendable, IsFit, IsFitIn, IsReadyIn, IsPlaceUtf8}
 use Rattle.wc_irc_texts.specs.Names.{is_channel}
 use Rattle.wc_irc.specs.NewBuffers.{opened, name_or}
 use Rattle.wc_irc.specs.OwnSpeech.{own_line, own_talk, hides, shown_text, acts_of_own, own_speech, own_lines, private_lines, own_texts, shown_parts}
@@ -143,6 +144,14 @@ both_in groups first second one two = by (fits_line first) (fits_line second) wh
   by true false = refusal_in groups _
   by false u = refusal_in groups _
 
+each_in : (groups : EntryGroups) (ms : List Message) → AllByRecursion IsSent ms → All (each_acts groups ms)
+each_in groups [] fit = tt
+each_in groups (m ∷ ms) fit = both (line_acts groups (line_of m)) (each_acts groups ms) (line_in groups (line_of m) (written_in_line m fit.0.0)) (each_in groups ms fit.1)
+
+each_read : (ms : List Message) → AllByRecursion IsSent ms → AllByRecursion IsReadBack ms
+each_read [] fit = tt
+each_read (m ∷ ms) fit = (ReadsLine-written m fit.0.0 fit.0.1, each_read ms fit.1)
+
 -- where a character fits, and else a refusal
 roomy : (groups : EntryGroups) (room : ℕ) (acts : List Act) (command : List ℕ) → (4 ≤ room → All acts) → All (cond (nat_le 4 room) acts (too_long groups command))
 roomy groups room acts command all = by (nat_le 4 room) refl where
@@ -184,6 +193,7 @@ errand_line groups link (Notifies target text) fit = linked_line groups link _ (
 errand_line groups link (SendsLine line) fit = linked_line groups link _ (λ s. line_in groups line fit)
 errand_line groups link (Opens nick) fit = linked_line groups link _ (λ s. opened_line (found groups s nick) (codes "private") s nick)
 errand_line groups link (SendsBoth m n) fit = linked_line groups link _ (λ s. both_in groups (line_of m) (line_of n) (written_in_line m fit.0.0) (written_in_line n fit.1.0))
+errand_line groups link (SendsEach ms) fit = linked_line groups link _ (λ s. each_in groups ms fit)
 
 errand_spelled : (errand : Errand) → IsFit errand → IsSpelled errand
 errand_spelled (Refuses text) fit = tt
@@ -197,6 +207,7 @@ errand_spelled (Notifies target text) fit =
 errand_spelled (SendsLine line) fit = tt
 errand_spelled (Opens nick) fit = tt
 errand_spelled (SendsBoth m n) fit = (ReadsLine-written m fit.0.0 fit.0.1, ReadsLine-written n fit.1.0 fit.1.1)
+errand_spelled (SendsEach ms) fit = each_read ms fit
 
 -- ---- what a line comes to
 

@@ -24,10 +24,10 @@ use Rattle.wc_irc.proofs.LineTextLemmas.{line_word, line_rest}
 use Rattle.wc_text.specs.Splits.{word_of, rest_of}
 use Rattle.wc_text.specs.Words.{words_of}
 use Rattle.std.proofs.lemmas.Bool.Decides.{nat_tests}
-use Rattle.wc_irc.specs.CommandSeen.{IsLine, IsLead, IsFit, IsFitIn, AreReadyWords, IsReady, IsReadyIn, IsUtf8In, IsPlaceUtf8}
+use Rattle.wc_irc.specs.CommandSeen.{IsSent, IsLine, IsLead, IsFit, IsFitIn, AreReadyWords, IsReady, IsReadyIn, IsUtf8In, IsPlaceUtf8}
 use Rattle.wc_irc_words.specs.Typed.{ServerCommand, AddsServer, DeletesServer, Connects, Disconnects, Joins, Parts, Says, Notices, Queries, Does, Renames, SetsTopic, Kicks, SetsModes, AsksNames, Quotes, Talks, Wrong, Bids, is_target}
 use Rattle.wc_irc.specs.LongTexts.{action}
-use Rattle.wc_irc.proofs.FormLemmas.{IsSent, reason_fit, everyday_fit}
+use Rattle.wc_irc.proofs.FormLemmas.{reason_fit, everyday_fit}
 use Rattle.wc_irc.proofs.LongLemmas.{action_line}
 
 -- ---- messages

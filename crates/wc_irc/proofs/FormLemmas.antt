@@ -1,29 +1,27 @@
 -- What everyday commands are for can be done as it stands.
 use Rattle.std.proofs.Common.{◌≡◌, ℕ, ◌<◌, ◌≤◌, Bool, true, false, cond, List, [], ◌∷◌, ◌++◌, length, map, refl, ap, ◌∙◌, arith, Option, Some, None, codes}
-use Rattle.std.specs.Prelude.{◌&&◌, ◌||◌, ◌==◌, not, nat_le}
+use Rattle.std.specs.Prelude.{◌&&◌, ◌||◌, ◌==◌, not}
 use Rattle.std.specs.List.{list_all, list_any}
 use Rattle.std.specs.Str.{IsUtf8}
 use Rattle.std.proofs.lemmas.Bool.{and_parts, and_from, not-true}
-use Rattle.std.proofs.lemmas.Bool.Decides.{nat_tests}
 use Rattle.std.proofs.lemmas.List.Folds.{list_all-append}
 use Rattle.std.proofs.lemmas.Str.{IsUtf8-append, IsUtf8-nil}
 use Rattle.wc_text.specs.Splits.{word_of, rest_of}
 use Rattle.wc_text.specs.Words.{is_filled, words_of}
 use Rattle.wc_text.proofs.Utf8Lemmas.{utf8_one, utf8_cons}
-use Rattle.wc_ircmsg.specs.declared.message.Message.{Message}
 use Rattle.wc_ircmsg.specs.Commands.{is_command}
 use Rattle.wc_ircmsg.specs.Utf8.{AreUtf8Texts}
-use Rattle.wc_ircmsg.specs.Written.{IsWritable, ends_lines, is_one_line, are_words, needs_colon}
+use Rattle.wc_ircmsg.specs.Written.{ends_lines, is_one_line, are_words, needs_colon}
 use Rattle.wc_irc.specs.Autojoin.{message}
-use Rattle.wc_irc.specs.CommandActs.{Place, channel_in, Errand, Sends, no_channel, may_lead, reason_params, wrong_arguments, words_line, text_line, with_channel, nick_and_channel, mode_letters, are_four_names, modes_of, ban_and_kick, part_and_join, request, is_right, form_errand, everyday_errand}
-use Rattle.wc_irc.specs.CommandSeen.{IsLine, IsLead, AreReadyWords, IsFit, IsUtf8In}
+use Rattle.wc_irc.specs.CommandActs.{Place, channel_in, Errand, Sends, no_channel, may_lead, reason_params, wrong_arguments, words_line, text_line, with_channel, nick_and_channel, mode_letters, mode_params, modes_of, ban_and_kick, part_and_join, request, is_right, form_errand, everyday_errand}
+use Rattle.wc_irc.specs.CommandSeen.{IsLine, IsLead, IsSent, IsFit, IsUtf8In}
 use Rattle.wc_irc_words.specs.declared.everyday.Everyday.{Everyday}
 use Rattle.wc_irc_words.specs.declared.everyday.Everyday.TheVariants as word
 use Rattle.wc_irc_words.specs.declared.everyday.Form.{Form}
 use Rattle.wc_irc_words.specs.declared.everyday.Form.TheVariants as form
 use Rattle.wc_irc_words.specs.Everyday.{everyday_name, everyday_command, form_of}
-use Rattle.wc_irc_words.specs.Typed.{is_target, are_mode_words}
-use Rattle.wc_irc.proofs.AskedLemmas.{word_lead, mode_words_ready}
+use Rattle.wc_irc_words.specs.Typed.{is_target}
+use Rattle.wc_irc.proofs.AskedLemmas.{word_lead, words_ready}
 use Rattle.wc_irc.proofs.LineTextLemmas.{line_word, line_rest}
 
 -- ---- lines
@@ -43,10 +41,6 @@ text_in front [] known line = known
 text_in front (b ∷ text) known line = joined_line front (32 ∷ 58 ∷ (b ∷ text)) known line
 
 -- ---- messages of a channel
-
--- a message that can be written, and is read back
-abbrev pub IsSent : Message → Type 0
-IsSent m = IsWritable m × AreUtf8Texts m.params
 
 lead_word : (w : List ℕ) → IsLead w → not (needs_colon w) ≡ true
 lead_word w lead = ap not lead.1
@@ -137,21 +131,57 @@ letters_utf8 : (adds : Bool) (letter : ℕ) (names : List (List ℕ)) → IsLett
 letters_utf8 true letter names is = utf8_cons 43 _ (omega arith) (letters_text letter names is.small)
 letters_utf8 false letter names is = utf8_cons 45 _ (omega arith) (letters_text letter names is.small)
 
-modes_sent : (adds : Bool) (letter : ℕ) (names : List (List ℕ)) (channel : List ℕ) → IsLetter letter → length names ≤ 4 → AreReadyWords names → IsLead channel → IsUtf8 channel → IsSent (message (codes "MODE") (channel ∷ mode_letters adds letter names ∷ names))
-modes_sent adds letter names channel is few ready lead utf8 =
+modes_sent : (adds : Bool) (letter : ℕ) (names : List (List ℕ)) (channel : List ℕ) → IsLetter letter → length names ≤ 4 → are_words names ≡ true → list_all is_one_line names ≡ true → AreUtf8Texts names → IsLead channel → IsUtf8 channel → IsSent (message (codes "MODE") (mode_params adds letter channel names))
+modes_sent adds letter names channel is few are lines texts lead utf8 =
     let own = letters_lead adds letter names is in
     let more : length (mode_letters adds letter names ∷ names) < 15 = omega (arith, few) in
-    led_words (codes "MODE") channel (mode_letters adds letter names ∷ names) refl lead utf8 more (words names ready.1 own)
-    (and_from (is_one_line (mode_letters adds letter names)) (list_all is_one_line names) own.0 ready.2) (letters_utf8 adds letter names is, ready.3)
+    led_words (codes "MODE") channel (mode_letters adds letter names ∷ names) refl lead utf8 more (words names are own)
+    (and_from (is_one_line (mode_letters adds letter names)) (list_all is_one_line names) own.0 lines) (letters_utf8 adds letter names is, texts)
   where
     words : (rest : List (List ℕ)) → are_words rest ≡ true → IsLead (mode_letters adds letter names) → are_words (mode_letters adds letter names ∷ rest) ≡ true
     words [] are own = refl
     words (w ∷ rest) are own = and_from (not (needs_colon (mode_letters adds letter names))) (are_words (w ∷ rest)) (lead_word (mode_letters adds letter names) own) are
 
-four_names : (names : List (List ℕ)) → are_four_names names ≡ true → length names ≤ 4
-four_names names e = few (length names) (and_parts (nat_le (length names) 4) (are_mode_words names) e).0 where
-  few : (n : ℕ) → nat_le n 4 ≡ true → n ≤ 4
-  few n e = grind (arith, nat_tests)
+-- names that can be sent, in any number
+pub record AreNames (names : List (List ℕ)) : Type 0 where
+  pub are : are_words names ≡ true
+  pub lines : list_all is_one_line names ≡ true
+  pub texts : AreUtf8Texts names
+
+one_less : (name : List ℕ) (names : List (List ℕ)) → AreNames (name ∷ names) → AreNames names
+one_less name [] are = record { are = refl; lines = refl; texts = tt }
+one_less name (next ∷ names) are = record {
+  are = (and_parts (not (needs_colon name)) (are_words (next ∷ names)) are.are).1;
+  lines = (and_parts (is_one_line name) (list_all is_one_line (next ∷ names)) are.lines).1;
+  texts = are.texts.1;
+}
+
+one_more : (name next : List ℕ) (others rest : List (List ℕ)) → AreNames (name ∷ next ∷ rest) → AreNames (next ∷ others) → AreNames (name ∷ next ∷ others)
+one_more name next others rest whole are = record {
+  are = and_from (not (needs_colon name)) (are_words (next ∷ others)) (and_parts (not (needs_colon name)) (are_words (next ∷ rest)) whole.are).0 are.are;
+  lines = and_from (is_one_line name) (list_all is_one_line (next ∷ others)) (and_parts (is_one_line name) (list_all is_one_line (next ∷ rest)) whole.lines).0 are.lines;
+  texts = (whole.texts.0, are.texts);
+}
+
+alone : (name : List ℕ) (names : List (List ℕ)) → AreNames (name ∷ names) → AreNames (name ∷ [])
+alone name names are = record { are = refl; lines = and_from (is_one_line name) true (and_parts (is_one_line name) (list_all is_one_line names) are.lines).0 refl; texts = (are.texts.0, tt) }
+
+first_four : (a b c d : List ℕ) (names : List (List ℕ)) → AreNames (a ∷ b ∷ c ∷ d ∷ names) → AreNames (a ∷ b ∷ c ∷ d ∷ [])
+first_four a b c d names are =
+    let second = one_less a (b ∷ c ∷ d ∷ names) are in
+    let third = one_less b (c ∷ d ∷ names) second in
+    let fourth = one_less c (d ∷ names) third in
+    one_more a b (c ∷ d ∷ []) (c ∷ d ∷ names) are (one_more b c (d ∷ []) (d ∷ names) second (one_more c d [] names third (alone d names fourth)))
+
+modes_fit : (adds : Bool) (letter : ℕ) (names : List (List ℕ)) (channel : List ℕ) → IsLetter letter → AreNames names → IsLead channel → IsUtf8 channel → IsFit (modes_of adds letter names channel)
+modes_fit adds letter [] channel is are lead utf8 = tt
+modes_fit adds letter (a ∷ []) channel is are lead utf8 = (modes_sent adds letter (a ∷ []) channel is (omega arith) are.are are.lines are.texts lead utf8, tt)
+modes_fit adds letter (a ∷ b ∷ []) channel is are lead utf8 = (modes_sent adds letter (a ∷ b ∷ []) channel is (omega arith) are.are are.lines are.texts lead utf8, tt)
+modes_fit adds letter (a ∷ b ∷ c ∷ []) channel is are lead utf8 = (modes_sent adds letter (a ∷ b ∷ c ∷ []) channel is (omega arith) are.are are.lines are.texts lead utf8, tt)
+modes_fit adds letter (a ∷ b ∷ c ∷ d ∷ names) channel is are lead utf8 =
+    let first = first_four a b c d names are in
+    let rest = one_less d names (one_less c (d ∷ names) (one_less b (c ∷ d ∷ names) (one_less a (b ∷ c ∷ d ∷ names) are))) in
+    (modes_sent adds letter (a ∷ b ∷ c ∷ d ∷ []) channel is (omega arith) first.are first.lines first.texts lead utf8, modes_fit adds letter names channel is rest lead utf8)
 
 -- ---- forms
 
@@ -183,8 +213,9 @@ form_fit place form.NickAndChannel command text utf8 known one has right line =
     let target = (and_parts (is_target (word_of text)) (not (is_filled (rest_of (rest_of text)))) right).0 in
     nick_fit command (channel_in place) (word_of text) (word_of (rest_of text)) known utf8 (word_lead text line target) (line_word text line).utf8 (line_word (rest_of text) (line_rest text line))
 form_fit place (form.Modes adds letter) command text utf8 known one has right line =
-    let ready = mode_words_ready text line (and_parts (nat_le (length (words_of text)) 4) (are_mode_words (words_of text)) right).1 in
-    channel_fits (modes_of adds letter (words_of text)) (channel_in place) utf8 (λ channel lead its. modes_sent adds letter (words_of text) channel has (four_names (words_of text) right) ready lead its)
+    let ready = words_ready 100 text line right in
+    let names : AreNames (words_of text) = record { are = ready.1; lines = ready.2; texts = ready.3 } in
+    channel_fits (modes_of adds letter (words_of text)) (channel_in place) utf8 (λ channel lead its. modes_fit adds letter (words_of text) channel has names lead its)
 form_fit place form.BanAndKick command text utf8 known one has right line =
     let named = word_lead text line right in
     let its = (line_word text line).utf8 in

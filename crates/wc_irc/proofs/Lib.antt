@@ -17,6 +17,7 @@ pub mod UserLemmas
 pub mod LineTextLemmas
 pub mod AskedLemmas
 pub mod FormLemmas
+pub mod FourLemmas
 pub mod LongLemmas
 pub mod MaskLemmas
 pub mod ErrandLemmas

@@ -13,10 +13,10 @@ use Rattle.wc_text.specs.Words.{is_filled}
 use Rattle.wc_ircmsg.specs.Commands.{is_command}
 use Rattle.wc_ircmsg.specs.Sources.{or_empty}
 use Rattle.wc_ircmsg.specs.Written.{IsWritable, ends_lines, is_one_line}
-use Rattle.wc_irc.specs.CommandSeen.{IsLine, IsLead, IsSendable, AreSendable}
+use Rattle.wc_irc.specs.CommandSeen.{IsSent, IsLine, IsLead, IsSendable, AreSendable}
 use Rattle.wc_irc.specs.LongTexts.{text_to, action, wrapped}
 use Rattle.wc_irc.specs.SpeechActs.{quoted, word_and_rest, request_of, Talk, Says, Does, Requests, talk_in, talk_of}
-use Rattle.wc_irc.proofs.FormLemmas.{IsSent, pair_fit}
+use Rattle.wc_irc.proofs.FormLemmas.{pair_fit}
 use Rattle.wc_irc.proofs.LineTextLemmas.{line_tail}
 use Rattle.wc_irc.proofs.TalkLemmas.{quoted_is}
 use Rattle.wc_irc_texts.specs.Parts.{parts, AreParts}

@@ -15,14 +15,14 @@ use Rattle.wc_irc.specs.Autojoin.{message}
 use Rattle.wc_irc.specs.ChannelStates.{channel_at}
 use Rattle.wc_irc.specs.LongTexts.{action, speech_acts, notify_acts}
 use Rattle.wc_irc.specs.NewBuffers.{opened}
-use Rattle.wc_irc.specs.SentLines.{refusal, line_acts, both_acts}
+use Rattle.wc_irc.specs.SentLines.{refusal, line_acts, both_acts, each_acts}
 use Rattle.wc_irc.specs.Servers.{ServerState}
 use Rattle.wc_irc.specs.TalkActs.{has_value}
 use Rattle.wc_irc.specs.Targets.{found}
 use Rattle.wc_irc_texts.specs.Texts.{in_one_line}
 use Rattle.wc_irc_words.specs.Typed.{ServerCommand, Joins, Parts, Says, Notices, Queries, Does, Renames, SetsTopic}
 use Rattle.wc_irc_words.specs.Typed.{Kicks, SetsModes, AsksNames, Quotes, Talks, Wrong, asked_of}
-use Rattle.wc_irc_words.specs.Typed.{Bids, is_target, are_mode_words}
+use Rattle.wc_irc_words.specs.Typed.{Bids, is_target, are_words_to}
 use Rattle.wc_irc_words.specs.Everyday.{everyday_name, everyday_command, form_of}
 use Rattle.wc_irc_words.specs.declared.everyday.Everyday.{Everyday}
 use Rattle.wc_irc_words.specs.declared.everyday.Form.{Form}
@@ -82,6 +82,8 @@ pub data Errand : Type 0 where
   Opens : List ℕ → Errand
   -- the lines of two messages are sent
   SendsBoth : Message → Message → Errand
+  -- the line of each message is sent
+  SendsEach : List Message → Errand
 
 abbrev pub wrong_arguments : List ℕ → Errand
 wrong_arguments name = Refuses (codes "wrong arguments: /" ++ name)
@@ -193,12 +195,22 @@ mode_sign false = 45
 abbrev pub mode_letters : Bool → ℕ → List (List ℕ) → List ℕ
 mode_letters adds letter names = mode_sign adds ∷ map (λ name. letter) names
 
-abbrev pub are_four_names : List (List ℕ) → Bool
-are_four_names names = nat_le (length names) 4 && are_mode_words names
+abbrev pub mode_params : Bool → ℕ → List ℕ → List (List ℕ) → List (List ℕ)
+mode_params adds letter channel names = channel ∷ mode_letters adds letter names ∷ names
 
+-- names four by four, of which the last may be fewer
+abbrev pub fours : List (List ℕ) → List (List (List ℕ))
+fours [] = []
+fours (a ∷ []) = (a ∷ []) ∷ []
+fours (a ∷ b ∷ []) = (a ∷ b ∷ []) ∷ []
+fours (a ∷ b ∷ c ∷ []) = (a ∷ b ∷ c ∷ []) ∷ []
+fours (a ∷ b ∷ c ∷ d ∷ names) = (a ∷ b ∷ c ∷ d ∷ []) ∷ fours names
+
+-- a line has the modes of four names at most
 abbrev pub modes_of : Bool → ℕ → List (List ℕ) → List ℕ → Errand
-modes_of adds letter names channel =
-    Sends (message (codes "MODE") (channel ∷ mode_letters adds letter names ∷ names))
+modes_of adds letter names channel = SendsEach
+    (map (λ params. message (codes "MODE") params)
+    (map (mode_params adds letter channel) (fours names)))
 
 -- a nick is kept out and taken out of the channel
 abbrev pub ban_and_kick : List ℕ → List ℕ → List ℕ → Errand
@@ -223,7 +235,7 @@ is_right form.Text text = true
 is_right form.WordAndText text = is_target (word_of text)
 is_right form.NickAndChannel text = is_target (word_of text)
     && not (is_filled (rest_of (rest_of text)))
-is_right (form.Modes adds letter) text = are_four_names (words_of text)
+is_right (form.Modes adds letter) text = are_words_to 100 (words_of text)
 is_right form.BanAndKick text = is_target (word_of text)
 is_right form.Request text = is_target (word_of text) && is_filled (rest_of text)
 is_right form.PartAndJoin text = true
@@ -309,6 +321,7 @@ acts_of_errand groups link (Opens nick) = if_linked groups link
     (λ s. opened (found groups s nick) (codes "private") s nick)
 acts_of_errand groups link (SendsBoth m n) = if_linked groups link
     (λ s. both_acts groups (line_of m) (line_of n))
+acts_of_errand groups link (SendsEach ms) = if_linked groups link (λ s. each_acts groups ms)
 
 -- what a line that is typed there comes to, where this link stands; None where it is not about a
 -- buffer

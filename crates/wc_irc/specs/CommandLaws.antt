@@ -10,7 +10,7 @@ use Rattle.wc_buffers.specs.Calls.{EntryGroups, vars_at}
 use Rattle.wc_irc.specs.declared.act.Act.{Act}
 use Rattle.wc_irc.specs.declared.act.Act.TheVariants as act
 use Rattle.wc_irc.specs.CommandActs.{Errand, Refuses, Sends, Speaks, Notifies, SendsLine}
-use Rattle.wc_irc.specs.CommandActs.{Opens, SendsBoth, place_in, linked_in, errand_of}
+use Rattle.wc_irc.specs.CommandActs.{Opens, SendsBoth, SendsEach, place_in, linked_in, errand_of}
 use Rattle.wc_irc.specs.LongTexts.{text_to, speech, wrapped}
 use Rattle.wc_irc.specs.SpeechActs.{Talk, Says, Does, Requests, talk_of}
 use Rattle.wc_irc.specs.Servers.{ServerState}
@@ -55,6 +55,7 @@ IsSpelled (Notifies target text) = IsReadBack (text_to (codes "NOTICE") target t
 IsSpelled (SendsLine line) = Unit {0}
 IsSpelled (Opens nick) = Unit {0}
 IsSpelled (SendsBoth m n) = IsReadBack m × IsReadBack n
+IsSpelled (SendsEach ms) = AllByRecursion IsReadBack ms
 
 abbrev pub IsSpelledIn : Option Errand → Type 0
 IsSpelledIn None = Unit {0}

@@ -1,11 +1,12 @@
 -- What a command comes to, as the code has it, and which texts can be sent.
 use Rattle.std.specs.Prelude.{◌≡◌, ◌≤◌, ℕ, true, false, List, ◌∷◌, length, Option}
-use Rattle.std.specs.Prelude.{Some, None, [], Bool, All, if◌then◌else◌}
+use Rattle.std.specs.Prelude.{Some, None, [], Bool, All, map, if◌then◌else◌}
 use Rattle.std.specs.Borrow.{Bor}
-use Rattle.std.specs.List.{list_all}
+use Rattle.std.specs.List.{list_all, AllByRecursion}
 use Rattle.std.specs.Option.{option_copied}
 use Rattle.std.specs.Str.{IsUtf8}
 use Rattle.wc_text.specs.Words.{words_of}
+use Rattle.wc_ircmsg.specs.declared.message.Message.{Message}
 use Rattle.wc_ircmsg.specs.Utf8.{AreUtf8Texts}
 use Rattle.wc_ircmsg.specs.Written.{IsWritable, are_words, needs_colon, is_one_line}
 use Rattle.wc_irc.specs.declared.errand.Errand.{Errand as Lent}
@@ -15,7 +16,7 @@ use Rattle.wc_irc.specs.declared.place.Place.TheVariants as places
 use Rattle.wc_irc.specs.declared.state.State.{State}
 use Rattle.wc_irc.specs.Autojoin.{message}
 use Rattle.wc_irc.specs.CommandActs.{Place, OnChannel, OnPrivate, Elsewhere, Errand, Refuses}
-use Rattle.wc_irc.specs.CommandActs.{Sends, Speaks, Notifies, SendsLine, Opens, SendsBoth}
+use Rattle.wc_irc.specs.CommandActs.{Sends, Speaks, Notifies, SendsLine, Opens, SendsBoth, SendsEach}
 use Rattle.wc_irc.specs.CommandActs.{reason_params, may_lead}
 use Rattle.wc_irc.specs.LongTexts.{text_to, wrapped}
 use Rattle.wc_irc.specs.Servers.{ServerState}
@@ -37,6 +38,8 @@ errand_seen (lent.Notify target text) = Notifies target.now text.now
 errand_seen (lent.Line line) = SendsLine line
 errand_seen (lent.SendBoth first params second others) =
     SendsBoth (message first.now params) (message second.now others)
+errand_seen (lent.SendEach command each) =
+    SendsEach (map (λ params. message command.now params) each)
 errand_seen (lent.Open nick) = Opens nick.now
 
 -- a channel that can be sent before others
@@ -72,15 +75,23 @@ AreSendable command target does texts =
 
 -- ---- what can be done as it stands: lines that can be written, and names of buffers that are text
 
+-- a message that can be written, and is read back
+abbrev pub IsSent : Message → Type 0
+IsSent m = IsWritable m × AreUtf8Texts m.params
+
 abbrev pub IsFit : Errand → Type 0
 IsFit (Refuses text) = Unit {0}
-IsFit (Sends m) = IsWritable m × AreUtf8Texts m.params
+IsFit (Sends m) = IsSent m
 IsFit (Speaks target text) = IsSendable target text
 IsFit (Notifies target text) = IsSendable target text
 IsFit (SendsLine line) = is_one_line line ≡ true
 IsFit (Opens nick) = IsUtf8 nick
-IsFit (SendsBoth m n) = (IsWritable m × AreUtf8Texts m.params)
-    × (IsWritable n × AreUtf8Texts n.params)
+IsFit (SendsBoth m n) = IsSent m × IsSent n
+IsFit (SendsEach ms) = AllByRecursion IsSent ms
+
+-- parameters of messages of a command that can be written
+abbrev pub AreWritable : List ℕ → List (List (List ℕ)) → Type 0
+AreWritable command each = AllByRecursion (λ params. IsWritable (message command params)) each
 
 abbrev pub IsFitIn : Option Errand → Type 0
 IsFitIn None = Unit {0}

@@ -1,5 +1,5 @@
 -- The lines that a command sends, of which none is longer than servers read, and refusals.
-use Rattle.std.specs.Prelude.{ℕ, Bool, nat_le, List, [], ◌∷◌, ◌++◌, codes, length, Option, Some, None}
+use Rattle.std.specs.Prelude.{ℕ, Bool, nat_le, flat_map, List, [], ◌∷◌, ◌++◌, codes, length, Option, Some, None}
 use Rattle.std.specs.Prelude.{if◌then◌else◌}
 use Rattle.wc_text.specs.Splits.{word_of}
 use Rattle.wc_text.specs.declared.names.Handle.{Handle}
@@ -32,6 +32,10 @@ fits_line line = nat_le (length line) 510
 
 abbrev pub line_acts : EntryGroups → List ℕ → List Act
 line_acts groups line = if fits_line line then act.Send line ∷ [] else too_long groups (word_of line)
+
+-- the line of each message, one by one
+abbrev pub each_acts : EntryGroups → List Message → List Act
+each_acts groups ms = flat_map (λ m. line_acts groups (line_of m)) ms
 
 -- two lines, of which none is sent where one is too long
 abbrev pub both_acts : EntryGroups → List ℕ → List ℕ → List Act

@@ -55,6 +55,11 @@ pub(crate) enum Errand<'a> {
         second: &'static [u8],
         others: Items<Text>,
     },
+    /// Messages of a command are to be sent, each with parameters of its own.
+    SendEach {
+        command: &'static [u8],
+        each: Items<Items<Text>>,
+    },
 }
 
 /// The most words of `/mode` on the buffer of a channel, which is one parameter more.
@@ -332,7 +337,7 @@ fn channel_modes<'a>(
 }
 
 /// Whether a text has this many words at most.
-pub(crate) fn are_at_most(text: &[u8], most: u32) -> bool
+fn are_at_most(text: &[u8], most: u32) -> bool
     ensures { result ≡ nat_le (length (words_of text.now)) most }
 {
     let mut count = 0;

@@ -1,12 +1,12 @@
-ghost use Rattle.std.specs.Prelude.{◌≡◌, ◌++◌, codes, OnOk};
+ghost use Rattle.std.specs.Prelude.{◌≡◌, ◌++◌, codes, map, OnOk};
 ghost use Rattle.std.specs.Str.{IsUtf8};
 ghost use Rattle.wc_ircmsg.specs.Written.{IsWritable, line_of};
 ghost use Rattle.wc_irc.specs.Autojoin.{message};
 ghost use Rattle.wc_irc.specs.CommandActs.{if_linked, acts_of_errand};
-ghost use Rattle.wc_irc.specs.CommandSeen.{errand_seen, link_seen, IsFit, IsSendable};
+ghost use Rattle.wc_irc.specs.CommandSeen.{errand_seen, link_seen, IsFit, IsSendable, AreWritable};
 ghost use Rattle.wc_irc.specs.LongTexts.{speech_acts, notify_acts};
 ghost use Rattle.wc_irc.specs.NewBuffers.{opened};
-ghost use Rattle.wc_irc.specs.SentLines.{refusal, line_acts, both_acts};
+ghost use Rattle.wc_irc.specs.SentLines.{refusal, line_acts, both_acts, each_acts};
 ghost use Rattle.wc_irc.specs.Targets.{found};
 
 use crate::act::Act;
@@ -74,6 +74,43 @@ fn put_both(
     let (command, params) = second;
     let second = message_line(alloc, command, params)?;
     put_both_lines(acts, alloc, buffers, first, second)
+}
+
+/// The line of each message of a command.
+fn put_lines(
+    acts: &mut Items<Act>,
+    alloc: Global,
+    buffers: &Buffers,
+    command: &[u8],
+    each: Items<Items<Text>>,
+) -> Result<(), NoMemory>
+    requires { AreWritable command.now each }
+    ensures { OnOk result (acts.new ≡ acts.old
+        ++ each_acts buffers.now (map (λ params. message command.now params) each)) }
+{
+    for params in each.into_vec() {
+        let line = message_line(alloc, command, params)?;
+        put_line(acts, alloc, buffers, line)?;
+    }
+    Ok(())
+}
+
+fn put_each(
+    acts: &mut Items<Act>,
+    alloc: Global,
+    buffers: &Buffers,
+    link: Option<&State>,
+    command: &[u8],
+    each: Items<Items<Text>>,
+) -> Result<(), NoMemory>
+    requires { AreWritable command.now each }
+    ensures { OnOk result (acts.new ≡ acts.old ++ if_linked buffers.now (link_seen link.entry)
+        (λ s. each_acts buffers.now (map (λ params. message command.now params) each))) }
+{
+    match link {
+        Some(_) => put_lines(acts, alloc, buffers, command, each),
+        None => put_not_connected(acts, alloc, buffers),
+    }
 }
 
 fn put_talk(
@@ -184,5 +221,6 @@ pub(crate) fn put_errand(
             (first, params),
             (second, others),
         ),
+        Errand::SendEach { command, each } => put_each(acts, alloc, buffers, link, command, each),
     }
 }

@@ -1,28 +1,30 @@
 //! What everyday commands come to, each by its form.
 
 ghost use Rattle.std.specs.Option.{option_copied};
-ghost use Rattle.std.specs.Prelude.{◌≡◌, ◌++◌, ◌∷◌, [], codes, map, IfOk};
+ghost use Rattle.std.specs.Prelude.{◌≡◌, ◌++◌, ◌∷◌, [], codes, drop, map, take, IfOk, OnOk};
 ghost use Rattle.wc_irc.specs.Autojoin.{message};
 ghost use Rattle.wc_irc.specs.CommandActs.{Sends, SendsLine, Speaks, reason_params};
 ghost use Rattle.wc_irc.specs.CommandActs.{words_line, text_line, with_channel, nick_and_channel};
-ghost use Rattle.wc_irc.specs.CommandActs.{mode_sign, mode_letters, modes_of, ban_and_kick};
+ghost use Rattle.wc_irc.specs.CommandActs.{mode_sign, mode_letters, mode_params, fours, modes_of};
+ghost use Rattle.wc_irc.specs.CommandActs.{ban_and_kick};
 ghost use Rattle.wc_irc.specs.CommandActs.{part_and_join, request, is_right, form_errand};
 ghost use Rattle.wc_irc.specs.CommandActs.{everyday_errand};
 ghost use Rattle.wc_irc.specs.CommandSeen.{place_seen, errand_seen, leading_in};
 ghost use Rattle.wc_text.specs.Splits.{word_of, rest_of};
 ghost use Rattle.wc_text.specs.Words.{words_of, is_filled};
 
-use crate::errand::{
-    Errand, are_at_most, may_lead, no_channel, put_params, put_words, send, wrong_arguments,
-};
+use crate::errand::{Errand, may_lead, no_channel, put_params, put_words, send, wrong_arguments};
 use crate::place::Place;
 use std::alloc::Global;
 use wc_irc_texts::joined;
-use wc_irc_words::{Everyday, Form, are_mode_words, is_target};
-use wc_text::{Items, NoMemory, Text, cut_word, words};
+use wc_irc_words::{Everyday, Form, are_few_words, is_target};
+use wc_text::{Items, NoMemory, Text, cut_word};
 
 /// The most names of a mode command.
-const MOST_NAMES: u32 = 4;
+const MOST_NAMES: u32 = 100;
+
+/// The most names of a line, of which a server takes three at least (RFC 2812).
+const NAMES_OF_LINE: usize = 4;
 
 // ---- lines
 
@@ -112,15 +114,74 @@ fn sign(adds: bool) -> u8
 }
 
 /// The letter once for each name, after its sign.
-fn mode_letters(alloc: Global, adds: bool, letter: u8, names: &[u8]) -> Result<Text, NoMemory>
-    ensures { IfOk result (λ letters. letters
-        ≡ mode_letters adds letter (words_of names.now)) }
+fn mode_letters(alloc: Global, adds: bool, letter: u8, names: &[Text]) -> Result<Text, NoMemory>
+    ensures { IfOk result (λ letters. letters ≡ mode_letters adds letter names.now) }
 {
     let mut letters = Text::from_slice(alloc, &[sign(adds)])?;
-    for _ in words(names) {
+    for _ in names {
         letters.append(&[letter])?;
     }
     Ok(letters)
+}
+
+fn put_names(params: &mut Items<Text>, alloc: Global, names: &[Text]) -> Result<(), NoMemory>
+    ensures { OnOk result (params.new ≡ params.old ++ names.now) }
+{
+    for name in names {
+        params.push(name.copy(alloc)?)?;
+    }
+    Ok(())
+}
+
+/// The parameters of a line with these names.
+fn mode_params(
+    alloc: Global,
+    adds: bool,
+    letter: u8,
+    channel: &[u8],
+    names: &[Text],
+) -> Result<Items<Text>, NoMemory>
+    ensures { IfOk result (λ params. params ≡ mode_params adds letter channel.now names.now) }
+{
+    let letters = mode_letters(alloc, adds, letter, names)?;
+    let mut params = Items::new(alloc);
+    put_params(&mut params, alloc, &[channel, letters.as_slice()])?;
+    drop(letters);
+    put_names(&mut params, alloc, names)?;
+    Ok(params)
+}
+
+/// The first four names, and those after them.
+#[tactic(auto, using(crate::proofs::FourLemmas::few_names))]
+fn cut_four(names: &[Text]) -> (&[Text], &[Text])
+    ensures first { result.0.now ≡ take 4 names.now }
+    ensures rest { result.1.now ≡ drop 4 names.now }
+{
+    if names.len() <= NAMES_OF_LINE {
+        return (names, &[]);
+    }
+    names.split_at(NAMES_OF_LINE)
+}
+
+/// The parameters of each line.
+fn each_params(
+    alloc: Global,
+    adds: bool,
+    letter: u8,
+    channel: &[u8],
+    names: &[Text],
+) -> Result<Items<Items<Text>>, NoMemory>
+    ensures { IfOk result (λ each. each
+        ≡ map (mode_params adds letter channel.now) (fours names.now)) }
+{
+    let mut each = Items::new(alloc);
+    let mut rest = names;
+    while !rest.is_empty() {
+        let (four, others) = cut_four(rest);
+        each.push(mode_params(alloc, adds, letter, channel, four)?)?;
+        rest = others;
+    }
+    Ok(each)
 }
 
 fn modes_of<'a>(
@@ -136,14 +197,12 @@ fn modes_of<'a>(
     let Some(channel) = leading(channel) else {
         return no_channel(alloc);
     };
-    let letters = mode_letters(alloc, adds, letter, names)?;
-    let mut params = Items::new(alloc);
-    put_params(&mut params, alloc, &[channel, letters.as_slice()])?;
-    drop(letters);
-    put_words(&mut params, alloc, names)?;
-    Ok(Errand::Send {
+    let mut own = Items::new(alloc);
+    put_words(&mut own, alloc, names)?;
+    let each = each_params(alloc, adds, letter, channel, own.as_slice())?;
+    Ok(Errand::SendEach {
         command: b"MODE",
-        params,
+        each,
     })
 }
 
@@ -238,7 +297,7 @@ fn is_right(form: Form, text: &[u8]) -> bool
         Form::SomeWords => !text.is_empty(),
         Form::WordAndText | Form::BanAndKick => is_target(word),
         Form::NickAndChannel => is_target(word) && cut_word(rest).1.is_empty(),
-        Form::Modes(_, _) => are_at_most(text, MOST_NAMES) && are_mode_words(text),
+        Form::Modes(_, _) => are_few_words(text, MOST_NAMES),
         Form::Request => is_target(word) && !rest.is_empty(),
     }
 }

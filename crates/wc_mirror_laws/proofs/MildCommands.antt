@@ -11,13 +11,13 @@ use Rattle.wc_irc.specs.declared.act.Act.TheVariants as act
 use Rattle.wc_irc.specs.Channels.{Joined}
 use Rattle.wc_irc.specs.ChannelStates.{channel_at}
 use Rattle.wc_irc.specs.CloseActs.{quit_line, disconnect_acts, part_of, part_from, close_acts}
-use Rattle.wc_irc.specs.CommandActs.{Errand, Refuses, Sends, Speaks, Notifies, SendsLine, Opens, SendsBoth, Place, channel_in, place_in, errand_of, if_linked, acts_of_errand, acts_of_line, linked_in, acts_of_typed, acts_of_unlinked}
+use Rattle.wc_irc.specs.CommandActs.{Errand, Refuses, Sends, Speaks, Notifies, SendsLine, Opens, SendsBoth, SendsEach, Place, channel_in, place_in, errand_of, if_linked, acts_of_errand, acts_of_line, linked_in, acts_of_typed, acts_of_unlinked}
 use Rattle.wc_irc.specs.LinkActs.{pass_acts, user_act, first_acts, lost_of, lost_line, loss_acts}
 use Rattle.wc_irc.specs.LongTexts.{room_for, text_to, speech, wrapped, sent_parts, deed_room, long_speech, speech_acts, long_notice, notify_acts}
 use Rattle.wc_irc.specs.NewBuffers.{opened, name_or}
 use Rattle.wc_irc.specs.NickActs.{remove_nick}
 use Rattle.wc_irc.specs.OwnSpeech.{own_tags, own_line, own_talk, hides, shown_text, acts_of_own, own_speech, own_lines, private_lines, own_texts, shown_parts}
-use Rattle.wc_irc.specs.SentLines.{told_in, refusal, too_long, sent_message, fits_line, line_acts, both_acts}
+use Rattle.wc_irc.specs.SentLines.{told_in, refusal, too_long, sent_message, fits_line, line_acts, both_acts, each_acts}
 use Rattle.wc_irc.specs.Servers.{ServerState}
 use Rattle.wc_irc.specs.SpeechActs.{Talk, Says, Does, Requests, talk_of}
 use Rattle.wc_irc.specs.TalkActs.{sent, raised, on_found, aimed}
@@ -161,6 +161,7 @@ mild_errand groups link (Speaks target text) = mild_linked groups link (λ s. sp
 mild_errand groups link (Notifies target text) = mild_linked groups link (λ s. notify_acts groups s target text) (λ s. mild_notify groups s target text)
 mild_errand groups link (SendsLine line) = mild_linked groups link (λ s. line_acts groups line) (λ s. mild_sent groups line)
 mild_errand groups link (SendsBoth m n) = mild_linked groups link (λ s. both_acts groups (line_of m) (line_of n)) (λ s. mild_sent_both groups (line_of m) (line_of n))
+mild_errand groups link (SendsEach ms) = mild_linked groups link (λ s. each_acts groups ms) (λ s. mild_each (λ m. line_acts groups (line_of m)) ms (λ m. mild_sent groups (line_of m)))
 mild_errand groups link (Opens nick) = mild_linked groups link (λ s. opened (found groups s nick) (codes "private") s nick) (λ s. mild_opened (found groups s nick) (codes "private") s nick)
 
 mild_line : (groups : EntryGroups) (link : Option ServerState) (place : Place) (line : List ℕ) → AreMild (acts_in (acts_of_line groups link place line))
