@@ -26,6 +26,8 @@ from mirror_irc import Server
 from prints import processor_time
 
 PASSWORD, PATIENCE, BUFFERS = "secret", 120, 64
+# A completion with fewer bytes is the null hdata.
+EMPTY = 40
 HOTLIST = "hdata hotlist:gui_hotlist(*)"
 # Of each request: what it is, the request, how many make a run, and the bounds in microseconds and in parts of WeeChat's.
 SMALL = (
@@ -39,7 +41,6 @@ SMALL = (
 LARGE = (
     ("a nick of %d, hi u1234", "completion irc.net.#a -1 hi u1234", 40, 2000, 0.2),
     ("a nick of %d, hi u1", "completion irc.net.#a -1 hi u1", 20, 2000, 0.2),
-    # WeeChat has no candidates there, and gives the null hdata.
     ("the empty word of %d", "completion irc.net.#a -1 ", 10, None, None),
 )
 # Of each line: what it is, how many buffers are in the hotlist before, what is sent before, and what is printed.
@@ -191,7 +192,9 @@ def compare(crowd, beside, runs):
         # What is bound for 10,000 nicks is bound ten times higher for ten times as many.
         most = most and most * (crowd / 10000 if "irc.net.#a" in line else 1)
         text = "%-32s %10.2f us, %7d bytes" % (name % crowd if "%d" in name else name, own, size)
-        if other is not None:
+        if other is not None and "completion" in line and other_size < EMPTY:
+            text += "   WeeChat completes no empty word"
+        elif other is not None:
             text += "   WeeChat %10.2f us, %7d bytes, %5.1f times" % (other, other_size, other / own)
         beyond = is_beyond(own, other, most, part)
         print(text + "   TOO MUCH" * beyond, flush=True)
