@@ -17,11 +17,10 @@ use Rattle.wc_model.specs.declared.change.LineSpec.{LineSpec}
 use Rattle.wc_model.specs.declared.change.What.{What}
 use Rattle.wc_model.specs.declared.change.What.TheVariants as what
 use Rattle.wc_model.specs.declared.refused.ChangeRefused.{ChangeRefused}
-use Rattle.wc_model.specs.Apply.{refusal}
 use Rattle.wc_world.specs.Texts.{IsChangeText, IsLineText, IsBufferText}
 use Rattle.wc_servers.specs.Texts.{is_pair_text, is_spec_text, is_line_text, is_item_text, is_change_text}
 use Rattle.wc_core.specs.CoreView.{CoreView}
-use Rattle.wc_core.specs.Changing.{no_step, change_step_if, refusal_step}
+use Rattle.wc_core.specs.Changing.{no_step, change_step_if, refused, refusal_step}
 use Rattle.wc_core.specs.Inputs.{MakesChange, RefusesChange}
 use Rattle.wc_core.specs.Resolved.{refusal_text}
 use Rattle.wc_core.specs.ServerSteps.{say_step, told_step_if, try_step, on_step}
@@ -111,34 +110,34 @@ change_text (what.Limit limit) e = limit_text limit (both_left (nat_le 1 limit) 
 -- ---- changes
 
 -- a change that is made, whether its refusal would be told or not
-made-as : (old new : CoreView) (change : Change) (step : State → Option ChangeRefused → Stepped) → ((state : State) → change_step_if state change None ≡ step state None) → MakesChange old change new → Runs old new (λ state. step state (refusal state.world change))
+made-as : (old new : CoreView) (change : Change) (step : State → Option ChangeRefused → Stepped) → ((state : State) → change_step_if state change None ≡ step state None) → MakesChange old change new → Runs old new (λ state. step state (refused state change))
 made-as old new change step same (inl made) = λ told.
     let P : Option ChangeRefused → Type 0 = λ o. RunsAt told old new (step (state_with old told) o) in
     let Q : Stepped → Type 0 = λ stepped. RunsAt told old new stepped in
     subst P (sym made.0) (subst Q (same (state_with old told)) (made.1 told))
-made-as old new change step same (inr starves) = Runs-starved old new (λ state. step state (refusal state.world change)) starves
+made-as old new change step same (inr starves) = Runs-starved old new (λ state. step state (refused state change)) starves
 
-pub tells-made : (old new : CoreView) (change : Change) → MakesChange old change new → Runs old new (λ state. told_step_if state change (refusal state.world change))
+pub tells-made : (old new : CoreView) (change : Change) → MakesChange old change new → Runs old new (λ state. told_step_if state change (refused state change))
 tells-made old new change made = made-as old new change (λ state o. told_step_if state change o) (λ state. refl) made
 
-pub passes-made : (old new : CoreView) (change : Change) → MakesChange old change new → Runs old new (λ state. change_step_if state change (refusal state.world change))
+pub passes-made : (old new : CoreView) (change : Change) → MakesChange old change new → Runs old new (λ state. change_step_if state change (refused state change))
 passes-made old new change made = made-as old new change (λ state o. change_step_if state change o) (λ state. refl) made
 
 -- one whose refusal is told
 pub tells-refused : (old mid new : CoreView) (change : Change) (reason : ChangeRefused) (text : List ℕ) → RefusesChange old change reason mid → text ≡ refusal_text reason → Runs mid new (λ state. say_step state text)
-    → Runs old new (λ state. told_step_if state change (refusal state.world change))
+    → Runs old new (λ state. told_step_if state change (refused state change))
 tells-refused old mid new change reason text refuses e done = λ told.
     let P : Option ChangeRefused → Type 0 = λ o. RunsAt told old new (told_step_if (state_with old told) change o) in
     let Q : List ℕ → Type 0 = λ t. RunsAt told old new (say_step (state_with old told) t) in
     subst P (sym refuses.refused) (subst Q e (Runs-over old mid new (λ state. say_step state text) refuses.stays refuses.touches done told))
 
 -- one that is refused and passed over
-pub passes-refused : (old new : CoreView) (change : Change) (reason : ChangeRefused) → RefusesChange old change reason new → Runs old new (λ state. change_step_if state change (refusal state.world change))
+pub passes-refused : (old new : CoreView) (change : Change) (reason : ChangeRefused) → RefusesChange old change reason new → Runs old new (λ state. change_step_if state change (refused state change))
 passes-refused old new change reason refuses = λ told.
     let P : Option ChangeRefused → Type 0 = λ o. RunsAt told old new (change_step_if (state_with old told) change o) in
     subst P (sym refuses.refused) (Runs-over old new new no_step refuses.stays refuses.touches (Runs-stays new) told)
 
-pub passes : (old new : CoreView) (change : Change) (o : Option ChangeRefused) → (o ≡ None → MakesChange old change new) → IfSome o (λ reason. RefusesChange old change reason new) → Runs old new (λ state. change_step_if state change (refusal state.world change))
+pub passes : (old new : CoreView) (change : Change) (o : Option ChangeRefused) → (o ≡ None → MakesChange old change new) → IfSome o (λ reason. RefusesChange old change reason new) → Runs old new (λ state. change_step_if state change (refused state change))
 passes old new change None made refused = passes-made old new change (made refl)
 passes old new change (Some reason) made refused = passes-refused old new change reason refused
 
@@ -160,20 +159,20 @@ pub says-told : (old new : CoreView) (text : List ℕ) (b : Bool) → b ≡ is_u
 says-told old new text b e passed done = chosen old new (is_utf8 text) true (λ state. refusal_step state text) no_step (sym e ∙ passed) done
 
 abbrev tried : Bool → Change → State → Stepped
-tried tells change state = cond tells (told_step_if state change (refusal state.world change)) (change_step_if state change (refusal state.world change))
+tried tells change state = cond tells (told_step_if state change (refused state change)) (change_step_if state change (refused state change))
 
 pub tries-not : (old : CoreView) (tells : Bool) (change : Change) (b : Bool) → b ≡ is_change_text change.what → b ≡ false → Runs old old (λ state. try_step tells state change)
 tries-not old tells change b e failed = chosen old old (is_change_text change.what) false (tried tells change) no_step (sym e ∙ failed) (Runs-stays old)
 
-pub tries-told : (old new : CoreView) (tells : Bool) (change : Change) (b : Bool) → b ≡ is_change_text change.what → b ≡ true → tells ≡ true → Runs old new (λ state. told_step_if state change (refusal state.world change)) → Runs old new (λ state. try_step tells state change)
+pub tries-told : (old new : CoreView) (tells : Bool) (change : Change) (b : Bool) → b ≡ is_change_text change.what → b ≡ true → tells ≡ true → Runs old new (λ state. told_step_if state change (refused state change)) → Runs old new (λ state. try_step tells state change)
 tries-told old new tells change b e passed on done =
     chosen old new (is_change_text change.what) true (tried tells change) no_step (sym e ∙ passed)
-    (chosen old new tells true (λ state. told_step_if state change (refusal state.world change)) (λ state. change_step_if state change (refusal state.world change)) on done)
+    (chosen old new tells true (λ state. told_step_if state change (refused state change)) (λ state. change_step_if state change (refused state change)) on done)
 
-pub tries-made : (old new : CoreView) (tells : Bool) (change : Change) (b : Bool) → b ≡ is_change_text change.what → b ≡ true → tells ≡ false → Runs old new (λ state. change_step_if state change (refusal state.world change)) → Runs old new (λ state. try_step tells state change)
+pub tries-made : (old new : CoreView) (tells : Bool) (change : Change) (b : Bool) → b ≡ is_change_text change.what → b ≡ true → tells ≡ false → Runs old new (λ state. change_step_if state change (refused state change)) → Runs old new (λ state. try_step tells state change)
 tries-made old new tells change b e passed off done =
     chosen old new (is_change_text change.what) true (tried tells change) no_step (sym e ∙ passed)
-    (chosen old new tells false (λ state. told_step_if state change (refusal state.world change)) (λ state. change_step_if state change (refusal state.world change)) off done)
+    (chosen old new tells false (λ state. told_step_if state change (refused state change)) (λ state. change_step_if state change (refused state change)) off done)
 
 -- ---- a buffer that is named
 

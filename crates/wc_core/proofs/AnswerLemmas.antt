@@ -8,7 +8,9 @@ use Rattle.wc_nickdiff.specs.Held.{OfBuffer, touches_of}
 use Rattle.wc_session.specs.RequestContext.{Context}
 use Rattle.wc_outside.specs.Keyed.{at_key, put_at}
 use Rattle.wc_outside.proofs.KeyedLemmas.{at_key-put_same, at_key-key}
+use Rattle.wc_filters.specs.declared.filter.Filter.{Filter}
 use Rattle.wc_model.specs.declared.change.Change.{Change}
+use Rattle.wc_model.specs.declared.change.Flip.{Flip}
 use Rattle.wc_model.specs.declared.notice.Notice.{Notice}
 use Rattle.wc_model.specs.Order.{order}
 use Rattle.wc_model.specs.World.{World}
@@ -27,27 +29,29 @@ use Rattle.wc_board.specs.BoardView.{BoardView}
 use Rattle.wc_board.specs.Connections.{connection_link, client_of, is_open, is_open_at, session_at, new_connection}
 use Rattle.wc_board.specs.Pushes.{pushed_connection}
 use Rattle.wc_board.specs.Served.{ConnectionsKept, NoticeServed}
-use Rattle.wc_core.specs.State.{Beside}
+use Rattle.wc_core.specs.State.{Beside, State, Stepped}
 use Rattle.wc_board.proofs.PushConnections.{ConnectionsKept-refl}
 use Rattle.wc_board.proofs.PushEach.{open_number, number_more, none_left, all_is}
 use Rattle.wc_text.specs.declared.names.Cause.TheVariants.{Surplus}
 use Rattle.wc_servers.specs.Seats.{ServersView, used_up}
 use Rattle.wc_core.specs.CoreView.{CoreView}
+use Rattle.wc_core.specs.Changing.{made_step, with_filters}
 use Rattle.wc_core.specs.Contexts.{context_in}
+use Rattle.wc_core.specs.Fitted.{flips_change}
 use Rattle.wc_core.specs.BoardSteps.{board_of, Keeps}
 use Rattle.wc_core.specs.News.{hotlist_after, rows_after}
 use Rattle.wc_core.specs.declared.core_hotlist.News.{News}
 use Rattle.wc_hotlist.specs.declared.row.HotRow.{HotRow}
-use Rattle.wc_core.specs.Inputs.{MakesChange, push_before, AnswersRequestOf}
+use Rattle.wc_core.specs.Inputs.{Makes, push_before, AnswersRequestOf}
 use Rattle.wc_core.specs.Limits.{client_limit}
 use Rattle.wc_core.specs.Step.{client_link, no_step, push_step, request_step, line_step, arrival_step}
 use Rattle.wc_core.specs.Served.{AdmitsUnlessStarved, OutcomeUtf8, state_of}
-use Rattle.wc_core.proofs.CoreLemmas.{news_after, came-surplus, starves-only, came, changes-some, outcome-text, line-missing, line-leaving, line-asked, MadeOn}
+use Rattle.wc_core.proofs.CoreLemmas.{news_after, came-surplus, starves-only, came, changes-some, some-change, outcome-text, line-missing, line-leaving, line-asked, MadeOn}
 use Rattle.wc_core.proofs.DidLemmas.{KeepsClients-trans}
 use Rattle.wc_core.proofs.PushLemmas.{IsPushedCore, push-done, keeps-touches, same-told}
 use Rattle.wc_core.proofs.ReplyLemmas.{reply_fits}
-use Rattle.wc_core.specs.Contained.{Counts, starving_number, Runs, RunsHere, beside_in, raised, RunsFor}
-use Rattle.wc_core.proofs.RunLemmas.{Runs-stays}
+use Rattle.wc_core.specs.Contained.{RanOutOfMemory, Counts, starving_number, Runs, RunsHere, beside_in, raised, RunsFor}
+use Rattle.wc_core.proofs.RunLemmas.{Runs-stays, Runs-starved}
 use Rattle.wc_core.proofs.CountLemmas.{counts-none, starving_more, AreDropped, counts-dropped, kept_less, raised-by, raised-none, kept_dropped}
 use Rattle.wc_core.proofs.BoardStepLemmas.{by-both, by-one}
 
@@ -325,11 +329,51 @@ heeded old mid new k news change counts heeds reads =
 
 pub changed-some : (old : CoreView) (board : BoardView) (mid new : CoreView) (before : ℕ) (change : Change) (news : News) (notice : Notice) → MadeOn old board.world board.pending change notice → NoticeServed board.world notice old.connections board.connections
     → mid ≡ record (with_board old board old.starved) { starved = count_since old board.connections before } → before ≡ open_number old.connections → old.starved ≤ mid.starved
-    → ((rows : List HotRow) → rows_after rows news ≡ hotlist_after rows change.buffer change.what) → new ≡ record mid { hotlist = rows_after mid.hotlist news } → MakesChange old change new
+    → ((rows : List HotRow) → rows_after rows news ≡ hotlist_after rows change.buffer change.what) → new ≡ record mid { hotlist = rows_after mid.hotlist news } → Makes old change new
 changed-some old board mid new before change news notice made served e same rises reads heeds =
     let k = count_since old board.connections before in
     let c = counted-as old board.connections before same (more old board mid before e rises) in
     changes-some old new board.world board.pending board.connections k change notice made served (heeded (with_board old board old.starved) mid new k news change e heeds reads) c.0 c.1
+
+-- the core with a board of which what was touched alone is another
+idle-by : (old : CoreView) (board : BoardView) → board.world ≡ old.world → board.connections ≡ old.connections → with_board old board old.starved ≡ record old { pending = board.pending }
+idle-by old board world connections =
+    ap (λ (w : World). record old { world = w; pending = board.pending; connections = board.connections }) world ∙ ap (λ (all : List Connection). record old { pending = board.pending; connections = all }) connections
+
+-- no change is made, for want of memory
+unchanged-starves : (old : CoreView) (board : BoardView) (new : CoreView) → IsUnchanged (board_of old) board → new ≡ record (with_board old board old.starved) { starved = min (old.starved + 1) (2 ^ 64 - 1); cuts = min (old.cuts + 1) (2 ^ 64 - 1) } → old.starved ≤ new.starved → RanOutOfMemory old new
+unchanged-starves old board new stays counts rises =
+    let mid : CoreView = record old { pending = board.pending } in
+    let same : with_board old board old.starved ≡ mid = idle-by old board stays.world stays.connections in
+    let starves = starves-only mid new (counts ∙ ap (λ (core : CoreView). record core { starved = min (old.starved + 1) (2 ^ 64 - 1); cuts = min (old.cuts + 1) (2 ^ 64 - 1) }) same) rises in
+    record {
+      keeps = KeepsClients-trans old mid new (keeps-touches old board.pending stays.touches) starves.keeps;
+      board = by-both (board_of old) (board_of mid) (board_of new) (by-one (board_of old) (board_of mid) (Keeps (record { same = stays.touches; put = refl })) tt) starves.board;
+      counts = record { dropped = starves.counts.dropped; short = starves.counts.short; own = starves.counts.own; lost = starves.counts.lost; leaving = starves.counts.leaving; counted = starves.counts.counted; cuts = starves.counts.cuts };
+      causes = starves.causes;
+      counted = starves.counted;
+      cut = starves.cut;
+      quits = starves.quits;
+      servers = starves.servers;
+      holds = λ told were. (let h = starves.holds told (same-told old board.pending (beside_in told) stays.touches were) in record { same = h.same; told = h.told });
+    }
+
+pub changed-none : (old : CoreView) (board : BoardView) (new : CoreView) (change : Change) → IsUnchanged (board_of old) board → new ≡ record (with_board old board old.starved) { starved = min (old.starved + 1) (2 ^ 64 - 1); cuts = min (old.cuts + 1) (2 ^ 64 - 1) } → old.starved ≤ new.starved → Makes old change new
+changed-none old board new change stays counts rises = inr (unchanged-starves old board new stays counts rises)
+
+-- flags were changed, and the filters taken that ask for it
+pub refilters-some : (old : CoreView) (board : BoardView) (mid new : CoreView) (before : ℕ) (flips : List Flip) (filters : List Filter) (notice : Notice) → MadeOn old board.world board.pending (flips_change flips) notice → NoticeServed board.world notice old.connections board.connections
+    → mid ≡ record (with_board old board old.starved) { starved = count_since old board.connections before } → before ≡ open_number old.connections → old.starved ≤ mid.starved → new ≡ record mid { filters = filters } → Runs old new (λ state. made_step (with_filters state filters) (flips_change flips))
+unfolding hotlist_after
+refilters-some old board mid new before flips filters notice made served e same rises takes =
+    let k = count_since old board.connections before in
+    let c = counted-as old board.connections before same (more old board mid before e rises) in
+    let P : CoreView → Type 0 = λ core. Runs old core (λ state. made_step (with_filters state filters) (flips_change flips)) in
+    subst P (sym (takes ∙ ap (λ (core : CoreView). record core { filters = filters }) e)) (some-change old filters board.world board.pending board.connections k (flips_change flips) notice made served c.0 c.1)
+
+-- no flag is changed, for want of memory
+pub refilters-none : (old : CoreView) (board : BoardView) (new : CoreView) (step : State → Stepped) → IsUnchanged (board_of old) board → new ≡ record (with_board old board old.starved) { starved = min (old.starved + 1) (2 ^ 64 - 1); cuts = min (old.cuts + 1) (2 ^ 64 - 1) } → old.starved ≤ new.starved → Runs old new step
+refilters-none old board new step stays counts rises = Runs-starved old new step (unchanged-starves old board new stays counts rises)
 
 -- nobody is dropped as a client comes
 pub came-counts : (old : CoreView) (board : BoardView) (servers : ServersView) (link : LinkId) (nonce : List ℕ) → board ≡ record (board_of old) { connections = old.connections ++ new_connection link nonce ∷ [] } → Counts 0 old (with_board (record old { servers = servers }) board old.starved)
@@ -344,29 +388,6 @@ on_ok (Err f) P e h = absurd (false≢true (sym e))
 pub not_not : (b : Bool) → not b ≡ false → b ≡ true
 not_not true e = refl
 not_not false e = absurd (false≢true (sym e))
-
--- the core with a board of which what was touched alone is another
-idle-by : (old : CoreView) (board : BoardView) → board.world ≡ old.world → board.connections ≡ old.connections → with_board old board old.starved ≡ record old { pending = board.pending }
-idle-by old board world connections =
-    ap (λ (w : World). record old { world = w; pending = board.pending; connections = board.connections }) world ∙ ap (λ (all : List Connection). record old { pending = board.pending; connections = all }) connections
-
--- no change is made, for want of memory
-pub changed-none : (old : CoreView) (board : BoardView) (new : CoreView) (change : Change) → IsUnchanged (board_of old) board → new ≡ record (with_board old board old.starved) { starved = min (old.starved + 1) (2 ^ 64 - 1); cuts = min (old.cuts + 1) (2 ^ 64 - 1) } → old.starved ≤ new.starved → MakesChange old change new
-changed-none old board new change stays counts rises =
-    let mid : CoreView = record old { pending = board.pending } in
-    let same : with_board old board old.starved ≡ mid = idle-by old board stays.world stays.connections in
-    let starves = starves-only mid new (counts ∙ ap (λ (core : CoreView). record core { starved = min (old.starved + 1) (2 ^ 64 - 1); cuts = min (old.cuts + 1) (2 ^ 64 - 1) }) same) rises in
-    inr (record {
-      keeps = KeepsClients-trans old mid new (keeps-touches old board.pending stays.touches) starves.keeps;
-      board = by-both (board_of old) (board_of mid) (board_of new) (by-one (board_of old) (board_of mid) (Keeps (record { same = stays.touches; put = refl })) tt) starves.board;
-      counts = record { dropped = starves.counts.dropped; short = starves.counts.short; own = starves.counts.own; lost = starves.counts.lost; leaving = starves.counts.leaving; counted = starves.counts.counted; cuts = starves.counts.cuts };
-      causes = starves.causes;
-      counted = starves.counted;
-      cut = starves.cut;
-      quits = starves.quits;
-      servers = starves.servers;
-      holds = λ told were. (let h = starves.holds told (same-told old board.pending (beside_in told) stays.touches were) in record { same = h.same; told = h.told });
-    })
 
 -- the core after pushes of nothing, of which nobody was dropped
 pub idle-counted : (old : CoreView) (board : BoardView) (new : CoreView) (before : ℕ) → ((buffer : Handle) → touches_of buffer old.pending ≡ []) → board.world ≡ old.world → board.connections ≡ old.connections → new ≡ record (with_board old board old.starved) { starved = count_since old board.connections before } → before ≡ open_number old.connections

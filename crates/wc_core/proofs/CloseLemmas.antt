@@ -15,7 +15,7 @@ use Rattle.wc_text.specs.declared.names.Handle.{Handle}
 use Rattle.wc_buffers.specs.Calls.{is_there}
 use Rattle.wc_model.specs.Order.{order}
 use Rattle.wc_model.specs.Apply.{after}
-use Rattle.wc_core.specs.Resolved.{Effect, Stays, Ends as ResolvedEnds, Tells, Asks, SetsOption, UnsetsOption, SavesOptions, ChangesHotlist, effect_of, option_text}
+use Rattle.wc_core.specs.Resolved.{Effect, Stays, Ends as ResolvedEnds, Tells, Asks, SetsOption, UnsetsOption, SavesOptions, ChangesHotlist, ChangesFilters, effect_of, option_text}
 use Rattle.wc_options.specs.Options.{refusal_of, value_of}
 use Rattle.wc_options.specs.declared.refusal.SetRefused.{SetRefused}
 use Rattle.wc_options.specs.declared.refusal.SetRefused.TheVariants.{UnknownOption}
@@ -30,7 +30,7 @@ use Rattle.wc_irc_texts.specs.Texts.{in_one_line}
 use Rattle.wc_irc_words.specs.Typed.{asked_of}
 use Rattle.wc_core.specs.ServerSteps.{before_step}
 use Rattle.wc_core.specs.ServerTyped.{connect_all_step}
-use Rattle.wc_core.proofs.ChangeCloses.{closes_none-if, then-closes, limits-closes, tells-closes, asks-closes}
+use Rattle.wc_core.proofs.ChangeCloses.{closes_none-if, then-closes, limits-closes, tells-closes, asks-closes, filters-closes}
 use Rattle.wc_core.proofs.ServerCloses.{quits-closes, before-closes, connects_all-closes, serves-closes}
 use Rattle.wc_core.proofs.DidLemmas.{close_of-append, ClosesLater}
 use Rattle.wc_core.proofs.ConnectionLemmas.{close-sends}
@@ -86,6 +86,7 @@ resolved-closes j state (SetsOption name value) = after_limit-closes j state (li
 resolved-closes j state (UnsetsOption name) = after_limit-closes j state (limit_unset name) (λ next. unset_step next name) (λ next. unsets-closes j next name)
 resolved-closes j state SavesOptions = refl
 resolved-closes j state (ChangesHotlist usage buffer) = refl
+resolved-closes j state (ChangesFilters change) = filters-closes j state change
 
 pub does-closes : (j : ℕ) (state : State) (buffer : Handle) (typed : TypedCommand) → close_of j (typed_step state buffer typed).acts ≡ None
 does-closes j state buffer typed = resolved-closes j state (effect_of state.world state.moment buffer typed)

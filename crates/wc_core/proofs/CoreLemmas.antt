@@ -34,12 +34,14 @@ use Rattle.wc_nickdiff.specs.Held.{OfBuffer}
 use Rattle.wc_session.specs.RequestContext.{Context}
 use Rattle.wc_core.specs.News.{hotlist_after}
 use Rattle.wc_core.specs.Typed.{TypedCommand}
+use Rattle.wc_filters.specs.declared.filter.Filter.{Filter}
 use Rattle.wc_hotlist.specs.declared.row.HotRow.{HotRow}
 use Rattle.wc_core.specs.Resolved.{Effect, effect_of, refusal_text, told_refusal}
-use Rattle.wc_core.specs.Inputs.{MakesChange, RefusesChange, push_before, AnswersRequestOf}
+use Rattle.wc_core.specs.Fitted.{fitted}
+use Rattle.wc_core.specs.Inputs.{Makes, MakesChange, RefusesChange, push_before, AnswersRequestOf}
 use Rattle.wc_core.specs.Limits.{client_limit}
 use Rattle.wc_core.specs.State.{State, Act, Stepped, Closes, has_end, outs_of}
-use Rattle.wc_core.specs.Step.{client_link, no_step, then_does, push_step, reply_step, sends, tell_all_step, with_hotlist, change_step, change_step_if, refusal_step, ask_step_if, ask_step, effect_step, typed_step, leave_step, arrival_step, outcome_step, answer_step, request_step, line_step}
+use Rattle.wc_core.specs.Step.{client_link, no_step, then_does, push_step, reply_step, sends, tell_all_step, made_step, change_step_if, refusal_step, ask_step_if, ask_step, effect_step, typed_step, leave_step, arrival_step, outcome_step, answer_step, request_step, line_step}
 use Rattle.wc_board.specs.Connections.{connection_link, is_open, is_open_at, leaving_on, left_if, left_at}
 use Rattle.wc_core.specs.Served.{clients_of, WereTold, close_of, LeavesBy, AdmitsUnlessStarved, OutcomeUtf8, plain_beside, Follows, KeepsClients, or_else, state_of}
 use Rattle.wc_board.specs.Served.{StaysOrStarves, told_connection, NoticeServed, ConnectionsKept}
@@ -60,12 +62,12 @@ use Rattle.wc_board.proofs.ConnectionLemmas.{ConnectionsKept-causes}
 use Rattle.wc_board.proofs.PushEach.{open_number}
 use Rattle.wc_servers.proofs.OutLemmas.{ServersFollow-refl}
 use Rattle.wc_board.proofs.PartLemmas.{notice_map, notice_kept}
-use Rattle.wc_core.proofs.ServeLemmas.{open_none, told_to_all, told-left, Follows-told, KeepsClients-told, with_rows, KeepsClients-put, reply-left, Follows-reply, leave-left, Follows-leave}
+use Rattle.wc_core.proofs.ServeLemmas.{open_none, told_to_all, told-left, Follows-told, KeepsClients-told, with_rows, with_news, KeepsClients-put, reply-left, Follows-reply, leave-left, Follows-leave}
 use Rattle.wc_core.proofs.ReplyLemmas.{reply_fits}
 use Rattle.wc_core.proofs.PushLemmas.{Runs-over}
 use Rattle.wc_core.specs.Contained.{Rest, state_with, first_stage, last_stage, RunsBy, RunsAt, RunsFor, Runs, RanOutOfMemory, RanOutFor, Counts, Holds, IsDone, LosesAsker, LosesAskerIf, RunsHere, beside_in, want_number, rest_in, starving_number, raised, starved_by}
 use Rattle.wc_eval.specs.Verdicts.{Agrees, VerdictsView}
-use Rattle.wc_core.specs.Changing.{put_step, reach_step, way_after}
+use Rattle.wc_core.specs.Changing.{put_step, reach_step, way_after, with_filters}
 use Rattle.wc_core.proofs.RunLemmas.{IsOn-first, Runs-starved, Runs-stays, RunsAt-exact, RunsAt-then, contained-none, RunsAt-starved, RunsBy-any, or-more}
 use Rattle.wc_core.proofs.CountLemmas.{AreDropped, Counts-refl, counts-dropped, counts-none, counts-short, kept_dropped, raised-none, served_none, starved_by-raised, starving_put, told_starving, counts-after-drops}
 use Rattle.wc_core.proofs.ChainLemmas.{stays-by, ends-then}
@@ -104,29 +106,29 @@ starves-as old new e rises told stepped = RunsAt-starved told old new stepped (s
 -- ---- notices
 
 -- what is told is done, whoever is dropped meanwhile
-told-done : (told : Rest) (told' : Told) (old : CoreView) (rows : List HotRow) (world : World) (pending : List OfBuffer) (connections : List Connection) (starved : ℕ) (n : Notice) → AreTold world pending (told_of told')
-    → IsDone told old (record old { world = world; pending = pending; connections = connections; hotlist = rows; starved = starved }) (tell_all_step (with_hotlist (state_with old told) rows) told' world n)
-told-done told told' old rows world pending connections starved n were =
-    let new : CoreView = record old { world = world; pending = pending; connections = connections; hotlist = rows; starved = starved } in
+told-done : (told : Rest) (told' : Told) (old : CoreView) (rows : List HotRow) (filters : List Filter) (world : World) (pending : List OfBuffer) (connections : List Connection) (starved : ℕ) (n : Notice) → AreTold world pending (told_of told')
+    → IsDone told old (record old { world = world; pending = pending; connections = connections; hotlist = rows; filters = filters; starved = starved }) (tell_all_step (with_news (state_with old told) rows filters) told' world n)
+told-done told told' old rows filters world pending connections starved n were =
+    let new : CoreView = record old { world = world; pending = pending; connections = connections; hotlist = rows; filters = filters; starved = starved } in
     record {
       holds = record { same = refl; told = were };
       is_on = inr refl;
       oracle = refl;
       quits = sym (ap (λ t. old.quits || t) (end-told world n told.clients) ∙ or-false old.quits);
-      servers = no-outs old new (tell_all_step (with_hotlist (state_with old told) rows) told' world n).acts refl (outs-told world n told.clients);
+      servers = no-outs old new (tell_all_step (with_news (state_with old told) rows filters) told' world n).acts refl (outs-told world n told.clients);
     }
 
-told-all : (told : Rest) (told' : Told) (old : CoreView) (rows : List HotRow) (world : World) (pending : List OfBuffer) (n : Notice) → BoardStep (board_of old) (board_of (told_to_all old world pending n)) → StepsBy None (board_of old) (board_of (told_to_all old world pending n)) → (WereTold old (beside_in told) → AreTold world pending (told_of told'))
-    → RunsAt told old (told_to_all (with_rows old rows) world pending n) (tell_all_step (with_hotlist (state_with old told) rows) told' world n)
-told-all told told' old rows world pending n step board were =
-    let new : CoreView = told_to_all (with_rows old rows) world pending n in
-    let of : List Client → Stepped = λ clients. tell_all_step (record (with_hotlist (state_with old told) rows) { clients = clients }) told' world n in
+told-all : (told : Rest) (told' : Told) (old : CoreView) (rows : List HotRow) (filters : List Filter) (world : World) (pending : List OfBuffer) (n : Notice) → BoardStep (board_of old) (board_of (told_to_all old world pending n)) → StepsBy None (board_of old) (board_of (told_to_all old world pending n)) → (WereTold old (beside_in told) → AreTold world pending (told_of told'))
+    → RunsAt told old (told_to_all (with_rows old rows filters) world pending n) (tell_all_step (with_news (state_with old told) rows filters) told' world n)
+told-all told told' old rows filters world pending n step board were =
+    let new : CoreView = told_to_all (with_rows old rows filters) world pending n in
+    let of : List Client → Stepped = λ clients. tell_all_step (record (with_news (state_with old told) rows filters) { clients = clients }) told' world n in
     RunsAt-exact told old new of
     (KeepsClients-told old new (steps-one (board_of old) (board_of new) step) (notice_kept world n old.connections (map (told_connection world n) old.connections) (notice_map world n old.connections)) (omega arith) (inl (refl, refl)) (ServersKeep-refl old.servers) refl)
     board
     (counts-none old new (told_starving world n old.connections) refl refl)
-    (λ distinct. told-left (beside_in told) told' old world n) (λ distinct before. Follows-told (beside_in told) told' old rows world pending n distinct (were before))
-    (λ distinct before. told-done told told' old rows world pending (map (told_connection world n) old.connections) old.starved n (were before))
+    (λ distinct. told-left (beside_in told) told' old world n) (λ distinct before. Follows-told (beside_in told) told' old rows filters world pending n distinct (were before))
+    (λ distinct before. told-done told told' old rows filters world pending (map (told_connection world n) old.connections) old.starved n (were before))
 
 -- the rows that were told after a change
 abbrev rows_after : CoreView → Change → Rest → Told
@@ -150,32 +152,32 @@ were_after old world pending change n made told before =
     subst P (sym made.accepted.after) (change_keeps_told old.world change old.pending pending told.rows made.accepted.accepted (subst Q made.accepted.after made.are) made.stray made.touched before)
 
 -- the step of a change by what its notice says
-abbrev noted_step : CoreView → Change → Rest → World → Notice → Stepped
-noted_step old change told world n = tell_all_step (with_hotlist (state_with old told) (news_after old change)) (rows_after old change told) world n
+abbrev noted_step : CoreView → List Filter → Change → Rest → World → Notice → Stepped
+noted_step old filters change told world n = tell_all_step (with_news (state_with old told) (news_after old change) filters) (rows_after old change told) world n
 
 -- what is so of the notice that was told is so of the change
-as_change : (P : Stepped → Type 0) (old : CoreView) (world : World) (change : Change) (n : Notice) (told : Rest) → Accepted old.world change world n → P (noted_step old change told world n) → P (change_step (state_with old told) change)
-as_change P old world change n told accepted is =
-    let Q : World → Type 0 = λ w. P (noted_step old change told w n) in
-    let R : Notice → Type 0 = λ n. P (noted_step old change told (after old.world change) n) in
+as_change : (P : Stepped → Type 0) (old : CoreView) (filters : List Filter) (world : World) (change : Change) (n : Notice) (told : Rest) → Accepted old.world change world n → P (noted_step old filters change told world n) → P (made_step (with_filters (state_with old told) filters) change)
+as_change P old filters world change n told accepted is =
+    let Q : World → Type 0 = λ w. P (noted_step old filters change told w n) in
+    let R : Notice → Type 0 = λ n. P (noted_step old filters change told (after old.world change) n) in
     subst R accepted.notice (subst Q accepted.after is)
 
 -- the board made a change, and told it to all whom its notice is for
-told-change : (old : CoreView) (world : World) (pending : List OfBuffer) (change : Change) (n : Notice) → MadeOn old world pending change n → Runs old (told_to_all (with_rows old (news_after old change)) world pending n) (λ state. change_step state change)
-told-change old world pending change n made = λ told.
-    let new : CoreView = told_to_all (with_rows old (news_after old change)) world pending n in
+told-change : (old : CoreView) (filters : List Filter) (world : World) (pending : List OfBuffer) (change : Change) (n : Notice) → MadeOn old world pending change n → Runs old (told_to_all (with_rows old (news_after old change) filters) world pending n) (λ state. made_step (with_filters state filters) change)
+told-change old filters world pending change n made = λ told.
+    let new : CoreView = told_to_all (with_rows old (news_after old change) filters) world pending n in
     let step : BoardStep (board_of old) (board_of new) =
     Tells (record { change = change; notice = n; accepted = made.accepted; touched = made.touched; each = notice_map world n old.connections }) in
-    as_change (λ stepped. RunsAt told old new stepped) old world change n told made.accepted (told-all told (rows_after old change told) old (news_after old change) world pending n step (by-one (board_of old) (board_of new) step tt) (were_after old world pending change n made told))
+    as_change (λ stepped. RunsAt told old new stepped) old filters world change n told made.accepted (told-all told (rows_after old change told) old (news_after old change) filters world pending n step (by-one (board_of old) (board_of new) step tt) (were_after old world pending change n made told))
 
 -- the core after a change that was made and told, and that the hotlist heeds
-abbrev pub changed_core : CoreView → Change → World → List OfBuffer → List Connection → ℕ → CoreView
-changed_core old change world pending connections k = record old { world = world; pending = pending; connections = connections; hotlist = news_after old change; starved = k }
+abbrev pub changed_core : CoreView → List Filter → Change → World → List OfBuffer → List Connection → ℕ → CoreView
+changed_core old filters change world pending connections k = record old { world = world; pending = pending; connections = connections; hotlist = news_after old change; filters = filters; starved = k }
 
 -- some may have found no memory for it, each of whom is counted
-some-change : (old : CoreView) (world : World) (pending : List OfBuffer) (connections : List Connection) (k : ℕ) (change : Change) (n : Notice) → MadeOn old world pending change n → NoticeServed world n old.connections connections
-    → k ≡ raised old.starved (open_number old.connections - open_number connections) → old.starved ≤ k → Runs old (changed_core old change world pending connections k) (λ state. change_step state change)
-some-change old world pending connections k change n made served count rises = λ told. record {
+pub some-change : (old : CoreView) (filters : List Filter) (world : World) (pending : List OfBuffer) (connections : List Connection) (k : ℕ) (change : Change) (n : Notice) → MadeOn old world pending change n → NoticeServed world n old.connections connections
+    → k ≡ raised old.starved (open_number old.connections - open_number connections) → old.starved ≤ k → Runs old (changed_core old filters change world pending connections k) (λ state. made_step (with_filters state filters) change)
+some-change old filters world pending connections k change n made served count rises = λ told. record {
   keeps = KeepsClients-told old new (steps-one (board_of old) (board_of new) (Tells (record { change = change; notice = n; accepted = made.accepted; touched = made.touched; each = served }))) kept rises (inl (refl, refl)) (ServersKeep-refl old.servers) refl;
   board = by-one (board_of old) (board_of new) (Tells (record { change = change; notice = n; accepted = made.accepted; touched = made.touched; each = served })) tt;
   counts = counts-dropped old new dropped (let sum = are.sum in let less = are.less in omega (arith, sum, less)) count refl;
@@ -184,16 +186,16 @@ some-change old world pending connections k change n made served count rises = �
       let none : dropped ≡ 0 = raised-none old.starved dropped below (sym count ∙ same) in
       let less = are.less in
       let all : connections ≡ map (told_connection world n) old.connections = served_none world n old.connections connections served (omega (arith, none, less)) in
-      let C : List Connection → CoreView = λ connections. changed_core old change world pending connections k in
-      let P : List Connection → Type 0 = λ connections. Follows (beside_in told) old (C connections) (change_step (state_with old told) change) in
-      let g = (told-change old world pending change n made told).does here refl below distinct were agrees in
+      let C : List Connection → CoreView = λ connections. changed_core old filters change world pending connections k in
+      let P : List Connection → Type 0 = λ connections. Follows (beside_in told) old (C connections) (made_step (with_filters (state_with old told) filters) change) in
+      let g = (told-change old filters world pending change n made told).does here refl below distinct were agrees in
       subst P (sym all) (record { means = record { same = g.means.same; told = g.means.told }; oracle = g.oracle; bytes = g.bytes; leaving = g.leaving; quits = g.quits; servers = g.servers; parts = g.parts });
   contains = λ below distinct were agrees.
-      let d = as_change (λ stepped. IsDone told old new stepped) old world change n told made.accepted (told-done told (rows_after old change told) old (news_after old change) world pending connections k n (were_after old world pending change n made told were)) in
-      record { whole = λ same. d; quits = λ over. sym d.quits ∙ over; part = record { stage = last_stage (change_step (state_with old told) change); is_on = d.is_on; holds = d.holds; servers = d.servers } };
+      let d = as_change (λ stepped. IsDone told old new stepped) old filters world change n told made.accepted (told-done told (rows_after old change told) old (news_after old change) filters world pending connections k n (were_after old world pending change n made told were)) in
+      record { whole = λ same. d; quits = λ over. sym d.quits ∙ over; part = record { stage = last_stage (made_step (with_filters (state_with old told) filters) change); is_on = d.is_on; holds = d.holds; servers = d.servers } };
 } where
   new : CoreView
-  new = changed_core old change world pending connections k
+  new = changed_core old filters change world pending connections k
 
   dropped : ℕ
   dropped = open_number old.connections - open_number connections
@@ -205,10 +207,10 @@ some-change old world pending connections k change n made served count rises = �
   are = kept_dropped old.connections connections kept
 
 pub changes-some : (old new : CoreView) (world : World) (pending : List OfBuffer) (connections : List Connection) (k : ℕ) (change : Change) (n : Notice) → MadeOn old world pending change n → NoticeServed world n old.connections connections
-    → new ≡ changed_core old change world pending connections k → k ≡ raised old.starved (open_number old.connections - open_number connections) → old.starved ≤ k → MakesChange old change new
+    → new ≡ changed_core old old.filters change world pending connections k → k ≡ raised old.starved (open_number old.connections - open_number connections) → old.starved ≤ k → Makes old change new
 changes-some old new world pending connections k change n made served e count rises =
-    let P : CoreView → Type 0 = λ c. Runs old c (λ state. change_step state change) in
-    inl (made.accepted.accepted, subst P (sym e) (some-change old world pending connections k change n made served count rises))
+    let P : CoreView → Type 0 = λ c. Runs old c (λ state. made_step state change) in
+    inl (made.accepted.accepted, subst P (sym e) (some-change old old.filters world pending connections k change n made served count rises))
 
 -- ---- changes and refusals
 
@@ -227,7 +229,7 @@ asks-told old mid new change reason text refuses e done = λ told.
 abbrev refusal_line : CoreView → List ℕ → Change
 refusal_line old text = told_refusal old.moment text
 
-tells-by : (old new : CoreView) (text : List ℕ) (o : Option ChangeRefused) → refusal old.world (refusal_line old text) ≡ o → Runs old new (λ state. change_step_if state (refusal_line old text) o) → Runs old new (λ state. refusal_step state text)
+tells-by : (old new : CoreView) (text : List ℕ) (o : Option ChangeRefused) → refusal old.world (fitted old.filters old.world (refusal_line old text)) ≡ o → Runs old new (λ state. change_step_if state (refusal_line old text) o) → Runs old new (λ state. refusal_step state text)
 tells-by old new text o e done = λ told.
     let P : Option ChangeRefused → Type 0 = λ o. RunsAt told old new (change_step_if (state_with old told) (refusal_line old text) o) in
     subst P (sym e) (done told)

@@ -29,6 +29,7 @@ pub mod EvalLemmas
 pub mod MessageLemmas
 pub mod NamesLaw
 pub mod NewsLemmas
+pub mod FilterLemmas
 pub mod OptionLemmas
 pub mod AskedLemmas
 pub mod TypedTexts

@@ -92,8 +92,10 @@ unfolding words_of core_text
 for_core name =
     known (bytes_eq name (codes "print")) _ _ _ refl (
     known (bytes_eq name (codes "buffer")) _ _ _ refl (
+    known (bytes_eq name (codes "close")) _ _ _ refl (
     known (bytes_eq name (codes "quit")) _ _ _ refl (
-    known (bytes_eq name (codes "eval")) _ _ _ refl (for_news name))))
+    known (bytes_eq name (codes "eval")) _ _ _ refl (
+    known (bytes_eq name (codes "filter")) _ _ _ refl (for_news name))))))
 
 pub known_named : (name : List ℕ) → is_known name ≡ is_named name
 known_named name = λ i. for_core name i || for_servers name i

@@ -21,10 +21,10 @@ use Rattle.wc_core.proofs.TypedLemmas.{ascii_text}
 use Rattle.wc_core.specs.Contained.{Rest, state_with, RunsAt, Runs}
 use Rattle.wc_core.specs.Served.{clients_of}
 use Rattle.wc_session.specs.declared.client.Client.{Client}
-use Rattle.wc_core.specs.Changing.{put_step, then_does, change_step_if, limit_change, limit_step}
+use Rattle.wc_core.specs.Changing.{put_step, then_does, refused, change_step_if, limit_change, limit_step}
 use Rattle.wc_core.proofs.ChainLemmas.{ClosesNone, Runs-cut, Runs-then}
 use Rattle.wc_core.proofs.ChangeCloses.{limits-closes}
-use Rattle.wc_model.specs.Apply.{refusal, refusal_of as change_refusal}
+use Rattle.wc_model.specs.Apply.{refusal_of as change_refusal}
 use Rattle.wc_core.proofs.RunLemmas.{RunsAt-exact}
 use Rattle.wc_core.proofs.CountLemmas.{counts-none}
 use Rattle.wc_core.proofs.BoardStepLemmas.{by-same}
@@ -33,7 +33,7 @@ use Rattle.wc_core.specs.BoardSteps.{board_of}
 -- ---- another limit of lines
 
 -- it is never refused
-pub limit-done : (old new : CoreView) (limit : ℕ) → Runs old new (λ state. change_step_if state (limit_change limit) (refusal state.world (limit_change limit))) → Runs old new (λ state. limit_step state (Some limit))
+pub limit-done : (old new : CoreView) (limit : ℕ) → Runs old new (λ state. change_step_if state (limit_change limit) (refused state (limit_change limit))) → Runs old new (λ state. limit_step state (Some limit))
 unfolding change_refusal
 limit-done old new limit done = done
 

@@ -68,7 +68,7 @@ first_held : (limit : ℕ) → AreHeld (first_world limit)
 first_held limit b = subst IsRows (sym (first_rows limit b)) no_rows_held
 
 pub first-means : (oracle : Oracle) (verdicts : VerdictsView) (options : OptionsValue) (limit : ℕ) (commands : List (List ℕ)) (starved cuts : ℕ) (quits : Bool)
-    → Means (record { options = options; world = first_world limit; pending = []; connections = []; moment = 0; commands = commands; saved = None; unwritten = false; hotlist = []; servers = no_servers; verdicts = verdicts; connects = true; starved = starved; cuts = cuts; quits = quits }) (first_state oracle options limit commands)
+    → Means (record { options = options; world = first_world limit; pending = []; connections = []; moment = 0; commands = commands; saved = None; unwritten = false; hotlist = []; filters = []; servers = no_servers; verdicts = verdicts; connects = true; starved = starved; cuts = cuts; quits = quits }) (first_state oracle options limit commands)
 first-means oracle verdicts options limit commands starved cuts quits = record { same = refl; told = rows_told (first_world limit) [] (first_held limit) (λ b. refl) }
 
 -- ---- what is kept of touches
@@ -222,7 +222,7 @@ push-done old new is = λ told. record {
   by told same below distinct were =
       let state = state_of old told in
       let pushed = is.all below same (told_of told.rows) were in
-      let of : List Client → State = λ clients. record { options = old.options; clients = clients; world = old.world; told = old.world.nicks; moment = old.moment; commands = old.commands; saved = old.saved; hotlist = old.hotlist; servers = open_of old.servers.seats; used = old.servers.used; connects = old.connects; oracle = told.oracle } in
+      let of : List Client → State = λ clients. record { options = old.options; clients = clients; world = old.world; told = old.world.nicks; moment = old.moment; commands = old.commands; saved = old.saved; hotlist = old.hotlist; filters = old.filters; servers = open_of old.servers.seats; used = old.servers.used; connects = old.connects; oracle = told.oracle } in
       let P : CoreView → Type 0 = λ c. Follows told old c (push_step state) in
       subst P (sym is.stays) (record {
         means = record { same = ap of (sym (ap clients_of pushed ∙ pushed-clients old.world (told_of told.rows) (order old.world.groups) old.connections)); told = rows };

@@ -1,5 +1,5 @@
 -- What a line comes to is text, and so is what is told of a refusal.
-use Rattle.std.proofs.Common.{◌≡◌, ℕ, Bool, true, false, cond, List, ◌++◌, Option, Some, None, codes, lit<, option_map, refl, sym, subst}
+use Rattle.std.proofs.Common.{◌≡◌, ℕ, Bool, true, false, cond, List, [], ◌++◌, Option, Some, None, codes, lit<, option_map, refl, sym, subst}
 use Rattle.std.specs.Prelude.{find, not, nat_lt, ◌+◌, length}
 use Rattle.std.specs.Str.{IsUtf8}
 use Rattle.std.proofs.lemmas.Str.{IsUtf8-nil, IsUtf8-append}
@@ -14,6 +14,9 @@ use Rattle.wc_buffers.specs.declared.refused.BufferRefused.TheVariants as buffer
 use Rattle.wc_buffers.specs.Entries.{IsText}
 use Rattle.wc_buffers.specs.Kept.{IsBuffer, AreBuffers}
 use Rattle.wc_buffers.specs.Calls.{EntryGroups, entry_of, number, is_bad_name, is_fixed, when, or_else as first_of, no_buffer, bad_name, fixed_var, bad_var_names, fixed_vars, refusal_of_name, bad_names, no_room, too_many_vars, add_refusal_so_far, add_refusal, close_refusal, move_refusal, are_together, same_group, merge_refusal, unmerge_refusal, rename_refusal, short_name_refusal, var_refusal, set_var_refusal, remove_var_refusal}
+use Rattle.wc_filters.specs.declared.filter.Filter.{Filter}
+use Rattle.wc_filters.specs.declared.refused.FilterRefused.{FilterRefused}
+use Rattle.wc_filters.specs.declared.refused.FilterRefused.TheVariants as filter
 use Rattle.wc_model.specs.declared.change.Change.{Change}
 use Rattle.wc_model.specs.declared.change.Flip.{Flip}
 use Rattle.wc_model.specs.declared.change.What.{What}
@@ -24,30 +27,21 @@ use Rattle.wc_model.specs.World.{World, last_handle}
 use Rattle.wc_model.specs.Touches.{touched_key}
 use Rattle.wc_model.specs.Apply.{or_else, of_buffers, refusal_of_handles, is_held, no_line, row_of, refusal_of, refusal}
 use Rattle.wc_world.specs.Texts.{IsChangeText}
-use Rattle.wc_core.specs.Typed.{TypedCommand, Nothing, Quits, Refused, Others, Prints, Adds, Closes, Merges, Names, Changes, Sets, Unsets, Switches, Saves, UsesHotlist, typed_line, Evaluates}
-use Rattle.wc_core.specs.Resolved.{Effect, Stays, Ends, Tells, Asks, SetsOption, UnsetsOption, SavesOptions, ChangesHotlist, switched, buffer_meant, no_such_buffer, of_meant, of_named, change_of, line_spec, core_spec, plugin_in, rename_of, effect_of, buffer_text, refusal_text, told_refusal}
-use Rattle.wc_core.specs.Texts.{WhatUtf8}
+use Rattle.wc_core.specs.Typed.{TypedCommand, Nothing, Quits, Refused, Others, Prints, Adds, Closes, Merges, Names, Changes, Sets, Unsets, Switches, Saves, UsesHotlist, UsesFilters, typed_line, Evaluates}
+use Rattle.wc_core.specs.Resolved.{Effect, Stays, Ends, Tells, Asks, SetsOption, UnsetsOption, SavesOptions, ChangesHotlist, ChangesFilters, switched, buffer_meant, no_such_buffer, of_meant, of_named, change_of, line_spec, core_spec, plugin_in, rename_of, effect_of, buffer_text, refusal_text, filter_text, no_such_filter, told_refusal}
+use Rattle.wc_core.specs.Fitted.{fitted_what}
+use Rattle.wc_core.specs.Texts.{WhatUtf8, EffectUtf8}
 use Rattle.wc_core.proofs.TypedLemmas.{ascii_text, TypedUtf8, typed_utf8}
 use Rattle.wc_core.proofs.ResolvedWords.{plugin_before}
 use Rattle.wc_core.specs.Evaluated.{printed_value}
 
 -- ---- what a line comes to
 
-abbrev pub ResolvedUtf8 : Effect → Type 0
-ResolvedUtf8 Stays = Unit {0}
-ResolvedUtf8 Ends = Unit {0}
-ResolvedUtf8 (Tells text) = IsUtf8 text
-ResolvedUtf8 (Asks change) = WhatUtf8 change.what
-ResolvedUtf8 (SetsOption name value) = IsUtf8 name × IsUtf8 value
-ResolvedUtf8 (UnsetsOption name) = IsUtf8 name
-ResolvedUtf8 SavesOptions = Unit {0}
-ResolvedUtf8 (ChangesHotlist usage buffer) = Unit {0}
-
-meant_text : (change : Handle → Change) → ((b : Handle) → WhatUtf8 (change b).what) → (o : Option Handle) → ResolvedUtf8 (of_meant change o)
+meant_text : (change : Handle → Change) → ((b : Handle) → WhatUtf8 (change b).what) → (o : Option Handle) → EffectUtf8 (of_meant change o)
 meant_text change each None = ascii_text no_such_buffer refl
 meant_text change each (Some buffer) = each buffer
 
-named_text : (groups : EntryGroups) (buffer : Handle) (change : Handle → Change) → ((b : Handle) → WhatUtf8 (change b).what) → (o : Option (List ℕ)) → ResolvedUtf8 (of_named groups buffer change o)
+named_text : (groups : EntryGroups) (buffer : Handle) (change : Handle → Change) → ((b : Handle) → WhatUtf8 (change b).what) → (o : Option (List ℕ)) → EffectUtf8 (of_named groups buffer change o)
 named_text groups buffer change each None = each buffer
 named_text groups buffer change each (Some word) = meant_text change each (buffer_meant groups word)
 
@@ -63,11 +57,11 @@ renamed_text groups buffer name are utf8 =
 added_text : (name : List ℕ) → IsUtf8 name → WhatUtf8 (what.Add (core_spec name))
 added_text name utf8 = record { full_name = IsUtf8-append (codes "core.") name (ascii_text (codes "core.") refl) utf8; short_name = utf8; title = IsUtf8-nil; vars = All-nil IsText }
 
-switched_text : (o : Option Handle) → ResolvedUtf8 (switched o)
+switched_text : (o : Option Handle) → EffectUtf8 (switched o)
 switched_text None = ascii_text (codes "wrong arguments: /buffer") refl
 switched_text (Some buffer) = tt
 
-pub resolved-utf8 : (world : World) (moment : ℕ) (buffer : Handle) (typed : TypedCommand) → AreBuffers world.groups → TypedUtf8 typed → ResolvedUtf8 (effect_of world moment buffer typed)
+pub resolved-utf8 : (world : World) (moment : ℕ) (buffer : Handle) (typed : TypedCommand) → AreBuffers world.groups → TypedUtf8 typed → EffectUtf8 (effect_of world moment buffer typed)
 unfolding effect_of
 resolved-utf8 world moment buffer Nothing are utf8 = tt
 resolved-utf8 world moment buffer Quits are utf8 = tt
@@ -85,11 +79,12 @@ resolved-utf8 world moment buffer (Unsets name) are utf8 = utf8
 resolved-utf8 world moment buffer (Switches name) are utf8 = switched_text (buffer_meant world.groups name)
 resolved-utf8 world moment buffer Saves are utf8 = tt
 resolved-utf8 world moment buffer (UsesHotlist usage) are utf8 = tt
+resolved-utf8 world moment buffer (UsesFilters change) are utf8 = utf8
 resolved-utf8 world moment buffer (Evaluates usage value) are utf8 = tt
 
 -- the same of a line that was read
-pub line-utf8 : (world : World) (moment : ℕ) (buffer : Handle) (typed : TypedCommand) (line : List ℕ) (r : Effect) → AreBuffers world.groups → IsUtf8 line → typed ≡ typed_line line → r ≡ effect_of world moment buffer typed → ResolvedUtf8 r
-line-utf8 world moment buffer typed line r are utf8 read e = subst ResolvedUtf8 (sym e) (resolved-utf8 world moment buffer typed are (subst TypedUtf8 (sym read) (typed_utf8 line utf8)))
+pub line-utf8 : (world : World) (moment : ℕ) (buffer : Handle) (typed : TypedCommand) (line : List ℕ) (r : Effect) → AreBuffers world.groups → IsUtf8 line → typed ≡ typed_line line → r ≡ effect_of world moment buffer typed → EffectUtf8 r
+line-utf8 world moment buffer typed line r are utf8 read e = subst EffectUtf8 (sym e) (resolved-utf8 world moment buffer typed are (subst TypedUtf8 (sym read) (typed_utf8 line utf8)))
 
 pub what_text : (w : What) → WhatUtf8 w → IsChangeText w
 what_text (what.Add spec) utf8 = utf8
@@ -308,3 +303,38 @@ refused_text world h (what.Limit limit) fits = tt
 -- what is told of a refused change is text
 pub refusal-utf8 : (world : World) (change : Change) (reason : ChangeRefused) → WhatUtf8 change.what → refusal world change ≡ Some reason → IsUtf8 (refusal_text reason)
 refusal-utf8 world change reason utf8 e = subst RefusedUtf8 e (refused_text world change.buffer change.what utf8)
+
+-- a change is text with its flags as well
+pub fitted-utf8 : (filters : List Filter) (world : World) (buffer : Handle) (w : What) → WhatUtf8 w → WhatUtf8 (fitted_what filters world buffer w)
+fitted-utf8 filters world buffer (what.Print line) utf8 = record { tags = utf8.tags; prefix = utf8.prefix; message = utf8.message }
+fitted-utf8 filters world buffer (what.Rename name flips) utf8 = utf8
+fitted-utf8 filters world buffer (what.Add spec) utf8 = utf8
+fitted-utf8 filters world buffer what.Close utf8 = utf8
+fitted-utf8 filters world buffer (what.MoveTo number) utf8 = utf8
+fitted-utf8 filters world buffer (what.MergeInto into) utf8 = utf8
+fitted-utf8 filters world buffer what.Unmerge utf8 = utf8
+fitted-utf8 filters world buffer what.Hide utf8 = utf8
+fitted-utf8 filters world buffer what.Unhide utf8 = utf8
+fitted-utf8 filters world buffer (what.ShortName name) utf8 = utf8
+fitted-utf8 filters world buffer (what.Title title) utf8 = utf8
+fitted-utf8 filters world buffer (what.SetVar var) utf8 = utf8
+fitted-utf8 filters world buffer (what.RemoveVar name) utf8 = utf8
+fitted-utf8 filters world buffer what.Clear utf8 = utf8
+fitted-utf8 filters world buffer (what.Flips flips) utf8 = utf8
+fitted-utf8 filters world buffer (what.AddGroup parent item) utf8 = absurd utf8
+fitted-utf8 filters world buffer (what.AddNick group item) utf8 = absurd utf8
+fitted-utf8 filters world buffer (what.RemoveGroup name) utf8 = absurd utf8
+fitted-utf8 filters world buffer (what.RemoveNick name) utf8 = absurd utf8
+fitted-utf8 filters world buffer (what.ChangeGroup item) utf8 = absurd utf8
+fitted-utf8 filters world buffer (what.ChangeNick item) utf8 = absurd utf8
+fitted-utf8 filters world buffer (what.Limit limit) utf8 = utf8
+
+-- the text of a refusal of a filter
+pub filter-text-utf8 : (name : List ℕ) (reason : FilterRefused) → IsUtf8 name → IsUtf8 (filter_text name reason)
+filter-text-utf8 name filter.NameTaken utf8 = IsUtf8-append (codes "filter: name taken: ") name (ascii_text (codes "filter: name taken: ") refl) utf8
+filter-text-utf8 name filter.BadPattern utf8 = ascii_text (codes "filter: bad pattern") refl
+filter-text-utf8 name filter.TooMany utf8 = ascii_text (codes "filter: too many") refl
+filter-text-utf8 name filter.NoMemory utf8 = ascii_text [] refl
+
+pub no-filter-utf8 : (name : List ℕ) → IsUtf8 name → IsUtf8 (no_such_filter name)
+no-filter-utf8 name utf8 = IsUtf8-append (codes "filter: no such name: ") name (ascii_text (codes "filter: no such name: ") refl) utf8

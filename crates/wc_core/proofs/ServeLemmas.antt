@@ -13,6 +13,7 @@ use Rattle.wc_outside.specs.Keyed.{at_key, put_at}
 use Rattle.wc_outside.proofs.KeyedLemmas.{at_key-key, at_key-put_other, at_key-put_same}
 use Rattle.wc_text.specs.declared.names.Handle.{Handle}
 use Rattle.wc_buffers.specs.Calls.{is_there}
+use Rattle.wc_filters.specs.declared.filter.Filter.{Filter}
 use Rattle.wc_hotlist.specs.declared.row.HotRow.{HotRow}
 use Rattle.wc_model.specs.declared.notice.Notice.{Notice}
 use Rattle.wc_model.specs.World.{World}
@@ -26,6 +27,7 @@ use Rattle.wc_core.specs.BoardSteps.{board_of, BoardSteps}
 use Rattle.wc_core.specs.TypedSeen.{lines_left}
 use Rattle.wc_core.specs.State.{State, Stage, Stepped, has_end}
 use Rattle.wc_core.specs.Inputs.{GoesOn, Stops}
+use Rattle.wc_core.specs.Changing.{with_filters}
 use Rattle.wc_core.specs.Step.{client_link, sends, no_step, then_does, tell_all_step, with_hotlist, input_step, lines_step, leave_step}
 use Rattle.wc_board.specs.Connections.{connection_link, is_open, unsent_in, unsent_on, leaving_in, leaving_on}
 use Rattle.wc_core.specs.Served.{links_of, clients_of, state_of, WereTold, or_else, close_of, Distinct, Follows, KeepsSaved, KeepsClients}
@@ -53,20 +55,24 @@ told_to_all old world pending n = record old { world = world; pending = pending;
 pub told-left : (told : Beside) (told' : Told) (old : CoreView) (world : World) (n : Notice) (j : ℕ) → leaving_on j (map (told_connection world n) old.connections) ≡ or_else (leaving_on j old.connections) (close_of j (tell_all_step (state_of old told) told' world n).acts)
 told-left told told' old world n j = told-leaving j world n old.connections ∙ sym (ap (or_else (leaving_on j old.connections)) (close-told j world n (clients_of old.connections)) ∙ or_else-none (leaving_on j old.connections))
 
--- the core with another hotlist
-abbrev pub with_rows : CoreView → List HotRow → CoreView
-with_rows old rows = record old { hotlist = rows }
+-- the core with another hotlist and other filters
+abbrev pub with_rows : CoreView → List HotRow → List Filter → CoreView
+with_rows old rows filters = record old { hotlist = rows; filters = filters }
 
-pub Follows-told : (told : Beside) (told' : Told) (old : CoreView) (rows : List HotRow) (world : World) (pending : List OfBuffer) (n : Notice) → Distinct (links_of old) → WereTold (told_to_all (with_rows old rows) world pending n) (record told { rows = told' })
-    → Follows told old (told_to_all (with_rows old rows) world pending n) (tell_all_step (with_hotlist (state_of old told) rows) told' world n)
-Follows-told told told' old rows world pending n distinct were = record {
+-- and a state
+abbrev pub with_news : State → List HotRow → List Filter → State
+with_news state rows filters = with_hotlist (with_filters state filters) rows
+
+pub Follows-told : (told : Beside) (told' : Told) (old : CoreView) (rows : List HotRow) (filters : List Filter) (world : World) (pending : List OfBuffer) (n : Notice) → Distinct (links_of old) → WereTold (told_to_all (with_rows old rows filters) world pending n) (record told { rows = told' })
+    → Follows told old (told_to_all (with_rows old rows filters) world pending n) (tell_all_step (with_news (state_of old told) rows filters) told' world n)
+Follows-told told told' old rows filters world pending n distinct were = record {
   means = record { same = rw (told-clients world n old.connections) refl; told = were };
   oracle = refl;
   bytes = λ j. told-bytes j world n old.connections distinct;
   leaving = told-left told told' old world n;
   quits = sym (ap (λ t. old.quits || t) (end-told world n (clients_of old.connections)) ∙ or-false old.quits);
-  servers = no-outs old (told_to_all (with_rows old rows) world pending n) (tell_all_step (with_hotlist (state_of old told) rows) told' world n).acts refl (outs-told world n (clients_of old.connections));
-  parts = no-order old (told_to_all (with_rows old rows) world pending n) (tell_all_step (with_hotlist (state_of old told) rows) told' world n).acts refl (outs-told world n (clients_of old.connections));
+  servers = no-outs old (told_to_all (with_rows old rows filters) world pending n) (tell_all_step (with_news (state_of old told) rows filters) told' world n).acts refl (outs-told world n (clients_of old.connections));
+  parts = no-order old (told_to_all (with_rows old rows filters) world pending n) (tell_all_step (with_news (state_of old told) rows filters) told' world n).acts refl (outs-told world n (clients_of old.connections));
 }
 
 pub KeepsClients-told : (old new : CoreView) → BoardSteps (board_of old) (board_of new) → ConnectionsKept old.connections new.connections → old.starved ≤ new.starved → KeepsSaved old new → ServersKeep old.servers new.servers → new.verdicts ≡ old.verdicts → KeepsClients old new

@@ -12,7 +12,6 @@ use Rattle.wc_model.specs.declared.change.Change.{Change}
 use Rattle.wc_model.specs.declared.change.What.{What}
 use Rattle.wc_model.specs.declared.change.What.TheVariants as what
 use Rattle.wc_model.specs.declared.refused.ChangeRefused.{ChangeRefused}
-use Rattle.wc_model.specs.Apply.{refusal}
 use Rattle.wc_options.specs.Options.{refusal_of, with_value}
 use Rattle.wc_options.specs.declared.refusal.SetRefused.{SetRefused}
 use Rattle.wc_ircmsg.specs.declared.message.Message.{Message}
@@ -35,7 +34,7 @@ use Rattle.wc_servers.specs.Seats.{ServerSeat, server_link}
 use Rattle.wc_servers.specs.Texts.{is_change_text}
 use Rattle.wc_core.specs.Resolved.{change_of, null, refusal_text, option_text}
 use Rattle.wc_core.specs.State.{State, Act, Serves, Quits, Stepped}
-use Rattle.wc_core.specs.Changing.{no_step, change_step_if, refusal_step}
+use Rattle.wc_core.specs.Changing.{no_step, change_step_if, refused, refusal_step}
 use Rattle.wc_core.specs.ServerSteps.{dated, say_step, told_step_if, try_step, on_step, send_step, act_step, acts_step, leave_server, server_loss_step, leave_in, loss_step_if, server_acts_step, with_server, message_step, server_line_step, stands_step, server_of, parting_step, before_step, quit_step}
 use Rattle.wc_core.specs.ServerTyped.{is_linked, settings_if, settings_step, delete_step, server_spec, open_step, seat_step, begin_step, is_spent, connect_step_if, connect_step, connects_itself, connect_own_step, connect_each_step, server_names, connect_all_step, unlinked_text, disconnect_step_if, meant_server, acts_in, on_buffer_step, served_step}
 use Rattle.wc_core.specs.Served.{close_of}
@@ -59,10 +58,10 @@ told_if-closes j state change (Some reason) = says-closes j state (refusal_text 
 
 pub tries-closes : (j : ℕ) (tells : Bool) (state : State) (change : Change) → close_of j (try_step tells state change).acts ≡ None
 tries-closes j tells state change =
-    let told = told_step_if state change (refusal state.world change) in
-    let made = change_step_if state change (refusal state.world change) in
+    let told = told_step_if state change (refused state change) in
+    let made = change_step_if state change (refused state change) in
     closes_none-if j (is_change_text change.what) (cond tells told made) (no_step state)
-    (closes_none-if j tells told made (told_if-closes j state change (refusal state.world change)) (changes_if-closes j state change (refusal state.world change))) refl
+    (closes_none-if j tells told made (told_if-closes j state change (refused state change)) (changes_if-closes j state change (refused state change))) refl
 
 pub on-closes : (j : ℕ) (tells : Bool) (state : State) (w : What) (o : Option Handle) → close_of j (on_step tells state w o).acts ≡ None
 on-closes j tells state w None = refl

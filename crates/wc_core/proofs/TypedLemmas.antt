@@ -17,9 +17,14 @@ use Rattle.std.specs.Str.Parse.{digits_value}
 use Rattle.wc_text.specs.Integer.{is_numeral}
 use Rattle.wc_text.specs.Words.{is_filled}
 use Rattle.wc_model.specs.declared.change.What.TheVariants as what
+use Rattle.wc_core.specs.Filtering.{IsFilterText}
 use Rattle.wc_core.specs.Texts.{WhatUtf8}
+use Rattle.wc_core.specs.declared.typed_filter.FilterChange.{FilterChange}
+use Rattle.wc_core.specs.declared.typed_filter.FilterChange.TheVariants as filtering
+use Rattle.wc_filters.specs.declared.switch.Switch.{Switch}
+use Rattle.wc_filters.specs.declared.switch.Switch.TheVariants.{Enable, Disable, Toggle}
 use Rattle.wc_core.specs.Step.{other_of}
-use Rattle.wc_core.specs.Typed.{TypedCommand, Nothing, Quits, Refused, Others, Prints, Adds, Closes, Merges, Names, Changes, Sets, Unsets, no_text_here, wrong_arguments, unknown_command, print_unless_empty, print_words, tags_of, is_first, second_of, after_second, print_tagged, print_on, print_command, wrong_buffer, one_word, without_words, some_text, moves_to, close_command, starts, set_property, buffer_word, buffer_command, quit_command, set_option, set_command, unset_command, option_command, command, slash_command, typed_line, lines_parted, lines_of_text, Switches, switch_command, input_command, hotlist_value, hotlist_command, news_command, UsesHotlist, Saves, save_command, Evaluates, eval_text, eval_printed, eval_command, evaluation_of}
+use Rattle.wc_core.specs.Typed.{TypedCommand, Nothing, Quits, Refused, Others, Prints, Adds, Closes, Merges, Names, Changes, Sets, Unsets, no_text_here, wrong_arguments, unknown_command, print_unless_empty, print_words, tags_of, is_first, second_of, after_second, print_tagged, print_on, print_command, wrong_buffer, one_word, without_words, some_text, moves_to, close_command, starts, set_property, buffer_word, buffer_command, quit_command, set_option, set_command, unset_command, option_command, command, slash_command, typed_line, lines_parted, lines_of_text, Switches, switch_command, input_command, hotlist_value, hotlist_command, news_command, UsesHotlist, UsesFilters, Saves, save_command, close_here, wrong_filter, filter_with, add_filter, one_filter, switch_filters, filter_word, filter_command, Evaluates, eval_text, eval_printed, eval_command, evaluation_of}
 use Rattle.wc_core.specs.TypedSeen.{lines_left, LeftUtf8}
 use Rattle.wc_core.specs.declared.typed_eval.EvalUse.{EvalUse}
 use Rattle.wc_core.specs.declared.typed_hotlist.HotlistUse.TheVariants as hotlist
@@ -60,6 +65,7 @@ TypedUtf8 (Unsets name) = IsUtf8 name
 TypedUtf8 (Switches name) = Unit {0}
 TypedUtf8 Saves = Unit {0}
 TypedUtf8 (UsesHotlist usage) = Unit {0}
+TypedUtf8 (UsesFilters change) = IsFilterText change
 TypedUtf8 (Evaluates usage text) = IsUtf8 text
 
 typed_if : (b : Bool) (x y : TypedCommand) → TypedUtf8 x → TypedUtf8 y → TypedUtf8 (cond b x y)
@@ -193,7 +199,44 @@ buffer_word_text word text t =
 buffer_text : (text : List ℕ) → IsUtf8 text → TypedUtf8 (buffer_command text)
 buffer_text text utf8 = buffer_word_text (word_of text) (rest_of text) (word_text text utf8).1
 
+-- ---- `/filter`
+
+wrong_filter_text : TypedUtf8 wrong_filter
+wrong_filter_text = wrong_text (codes "filter") (ascii_text (codes "filter") refl)
+
+filter_with_text : (name buffers tags pattern : List ℕ) → IsUtf8 name → IsUtf8 pattern → TypedUtf8 (filter_with name buffers tags pattern)
+filter_with_text name buffers tags [] n p = wrong_filter_text
+filter_with_text name buffers tags (b ∷ pattern) n p = (n, p)
+
+add_filter_text : (text : List ℕ) → IsUtf8 text → TypedUtf8 (add_filter text)
+add_filter_text text utf8 =
+    filter_with_text (word_of text) (second_of text) (word_of (after_second text)) (rest_of (after_second text)) (word_text text utf8).0 (word_text (after_second text) (second_text text utf8).1).1
+
+one_filter_text : (change : List ℕ → FilterChange) → ((word : List ℕ) → IsUtf8 word → IsFilterText (change word)) → (text : List ℕ) → IsUtf8 text → TypedUtf8 (one_filter change text)
+one_filter_text change each [] utf8 = wrong_filter_text
+one_filter_text change each (b ∷ text) utf8 =
+    typed_if (nat_lt 0 (length (rest_of (b ∷ text)))) wrong_filter (UsesFilters (change (word_of (b ∷ text)))) wrong_filter_text (each (word_of (b ∷ text)) (word_text (b ∷ text) utf8).0)
+
+switch_filters_text : (switch : Switch) (text : List ℕ) → IsUtf8 text → TypedUtf8 (switch_filters switch text)
+switch_filters_text switch [] utf8 = tt
+switch_filters_text switch (b ∷ text) utf8 = one_filter_text (λ name. filtering.Switch (Some name) switch) (λ name u. u) (b ∷ text) utf8
+
+filter_word_text : (word text : List ℕ) → IsUtf8 text → TypedUtf8 (filter_word word text)
+filter_word_text word text t =
+    typed_if (bytes_eq word (codes "add")) _ _ (add_filter_text text t)
+    (typed_if (bytes_eq word (codes "del")) _ _ (one_filter_text filtering.Delete (λ name u. u) text t)
+    (typed_if (bytes_eq word (codes "enable")) _ _ (switch_filters_text Enable text t)
+    (typed_if (bytes_eq word (codes "disable")) _ _ (switch_filters_text Disable text t)
+    (typed_if (bytes_eq word (codes "toggle")) _ _ (switch_filters_text Toggle text t) wrong_filter_text))))
+
+filter_text : (text : List ℕ) → IsUtf8 text → TypedUtf8 (filter_command text)
+filter_text text utf8 = filter_word_text (word_of text) (rest_of text) (word_text text utf8).1
+
 -- ---- commands
+
+close_here_text : (text : List ℕ) → TypedUtf8 (close_here text)
+close_here_text [] = tt
+close_here_text (b ∷ text) = wrong_text (codes "close") (ascii_text (codes "close") refl)
 
 quit_text : (text : List ℕ) → TypedUtf8 (quit_command text)
 quit_text [] = tt
@@ -255,8 +298,10 @@ command_text : (name text : List ℕ) → IsUtf8 name → IsUtf8 text → TypedU
 command_text name text n t =
     typed_if (bytes_eq name (codes "print")) _ _ (print_text text t)
     (typed_if (bytes_eq name (codes "buffer")) _ _ (buffer_text text t)
+    (typed_if (bytes_eq name (codes "close")) _ _ (close_here_text text)
     (typed_if (bytes_eq name (codes "quit")) _ _ (quit_text text)
-    (typed_if (bytes_eq name (codes "eval")) _ _ (eval_command_text text t) (news_text name text n t))))
+    (typed_if (bytes_eq name (codes "eval")) _ _ (eval_command_text text t)
+    (typed_if (bytes_eq name (codes "filter")) _ _ (filter_text text t) (news_text name text n t))))))
 
 slashed_text : (text : List ℕ) → IsUtf8 text → TypedUtf8 (slash_command text)
 slashed_text [] utf8 = command_text [] [] IsUtf8-nil IsUtf8-nil
@@ -327,6 +372,7 @@ others_text (Unsets name) text utf8 e = absurd (cc)
 others_text (Switches name) text utf8 e = absurd (cc)
 others_text Saves text utf8 e = absurd (cc)
 others_text (UsesHotlist usage) text utf8 e = absurd (cc)
+others_text (UsesFilters change) text utf8 e = absurd (cc)
 others_text (Evaluates usage value) text utf8 e = absurd (cc)
 
 -- the text that a line evaluates is text
@@ -349,3 +395,4 @@ evaluated_text (Unsets name) usage text utf8 e = absurd (cc)
 evaluated_text (Switches name) usage text utf8 e = absurd (cc)
 evaluated_text Saves usage text utf8 e = absurd (cc)
 evaluated_text (UsesHotlist from) usage text utf8 e = absurd (cc)
+evaluated_text (UsesFilters change) usage text utf8 e = absurd (cc)

@@ -1,11 +1,15 @@
 -- What changes, pushes and options come to.
-use Rattle.std.specs.Prelude.{ℕ, List, [], ◌∷◌, ◌++◌, map, Option, Some, None}
+use Rattle.std.specs.Prelude.{ℕ, List, [], ◌∷◌, ◌++◌, map, Option, Some, None, unwrap_or}
 use Rattle.std.specs.List.{flat_map}
 use Rattle.wc_text.specs.declared.names.Handle.{Handle}
+use Rattle.wc_filters.specs.declared.filter.Filter.{Filter}
+use Rattle.wc_filters.specs.declared.refused.FilterRefused.{FilterRefused}
+use Rattle.wc_filters.specs.Kept.{new_filter, refusal_of as refusal_of_filter}
 use Rattle.wc_hotlist.specs.declared.row.HotRow.{HotRow}
 use Rattle.wc_nickdiff.specs.declared.diff_item.Push.{Push}
 use Rattle.wc_nickdiff.specs.NickPush.{nick_push}
 use Rattle.wc_model.specs.declared.change.Change.{Change}
+use Rattle.wc_model.specs.declared.change.Flip.{Flip}
 use Rattle.wc_model.specs.declared.change.What.TheVariants.{Limit}
 use Rattle.wc_model.specs.declared.notice.Notice.{Notice}
 use Rattle.wc_model.specs.declared.refused.ChangeRefused.{ChangeRefused}
@@ -16,6 +20,7 @@ use Rattle.wc_model.specs.Notices.{notice}
 use Rattle.wc_model.specs.Touches.{told_after}
 use Rattle.wc_objects.specs.declared.object.WireMessage.{WireMessage}
 use Rattle.wc_options.specs.Config.{config_text}
+use Rattle.wc_rules.specs.Plans.{filters_without, filters_switched}
 use Rattle.wc_options.specs.Options.{refusal_of, value_of, with_value, without_value}
 use Rattle.wc_options.specs.declared.refusal.SetRefused.{SetRefused}
 use Rattle.wc_options.specs.declared.refusal.SetRefused.TheVariants.{UnknownOption}
@@ -23,9 +28,12 @@ use Rattle.wc_session.specs.declared.client.Client.{Client}
 use Rattle.wc_session.specs.Event.{notice_told, push_told}
 use Rattle.wc_session.specs.Sync.{after_event}
 use Rattle.wc_core.specs.Limits.{limit_set, limit_unset}
+use Rattle.wc_core.specs.Fitted.{fitted, flips_change, flips_everywhere}
 use Rattle.wc_core.specs.News.{hotlist_after, rows_used}
+use Rattle.wc_core.specs.declared.typed_filter.FilterChange.{FilterChange}
+use Rattle.wc_core.specs.declared.typed_filter.FilterChange.TheVariants as filtering
 use Rattle.wc_core.specs.declared.typed_hotlist.HotlistUse.{HotlistUse}
-use Rattle.wc_core.specs.Resolved.{refusal_text, option_text, told_refusal}
+use Rattle.wc_core.specs.Resolved.{refusal_text, option_text, filter_text, no_such_filter, told_refusal}
 use Rattle.wc_servers.specs.Outs.{Out}
 use Rattle.wc_core.specs.State.{State, Act, Sends, outs_of, Stage, Stepped, told_at}
 use Rattle.wc_board.specs.Told.{Told}
@@ -91,12 +99,24 @@ tell_all_step state told world notice = reach_step (record state {
 abbrev pub with_hotlist : State → List HotRow → State
 with_hotlist state rows = record state { hotlist = rows }
 
--- an accepted change
-abbrev pub change_step : State → Change → Stepped
-change_step state change = tell_all_step
+-- an accepted change, as it is
+abbrev pub made_step : State → Change → Stepped
+made_step state change = tell_all_step
     (with_hotlist state (hotlist_after state.hotlist change.buffer change.what))
     (told_after state.world change.buffer change.what state.told) (after state.world change)
     (notice state.world change)
+
+-- a change with the flags of lines as the filters have them
+abbrev pub fitted_in : State → Change → Change
+fitted_in state change = fitted state.filters state.world change
+
+-- an accepted change, with these flags
+abbrev pub change_step : State → Change → Stepped
+change_step state change = made_step state (fitted_in state change)
+
+-- why a change is refused with these flags, if it is
+abbrev pub refused : State → Change → Option ChangeRefused
+refused state change = refusal state.world (fitted_in state change)
 
 abbrev pub change_step_if : State → Change → Option ChangeRefused → Stepped
 change_step_if state change None = change_step state change
@@ -105,7 +125,7 @@ change_step_if state change (Some reason) = no_step state
 -- a refusal is told by a line of the core buffer, where there are handles for it
 abbrev pub refusal_step : State → List ℕ → Stepped
 refusal_step state text = change_step_if state (told_refusal state.moment text)
-    (refusal state.world (told_refusal state.moment text))
+    (refused state (told_refusal state.moment text))
 
 -- a change, or why it is refused
 abbrev pub ask_step_if : State → Change → Option ChangeRefused → Stepped
@@ -113,7 +133,7 @@ ask_step_if state change None = change_step state change
 ask_step_if state change (Some reason) = refusal_step state (refusal_text reason)
 
 abbrev pub ask_step : State → Change → Stepped
-ask_step state change = ask_step_if state change (refusal state.world change)
+ask_step state change = ask_step_if state change (refused state change)
 
 -- ---- pushes of nicklists
 
@@ -183,3 +203,38 @@ save_step state = put_step (record state { saved = Some (config_text state.optio
 abbrev pub hotlist_step : State → HotlistUse → Handle → Stepped
 hotlist_step state usage buffer =
     put_step (with_hotlist state (rows_used usage buffer state.hotlist))
+
+-- ---- filters
+
+-- the state with other filters
+abbrev pub with_filters : State → List Filter → State
+with_filters state filters = record state { filters = filters }
+
+-- Other filters, and in the same step the flags that differ by them, where some do.
+abbrev pub refilter_step : State → List Filter → List Flip → Stepped
+refilter_step state filters [] = put_step (with_filters state filters)
+refilter_step state filters (flip ∷ flips) =
+    made_step (with_filters state filters) (flips_change (flip ∷ flips))
+
+abbrev pub filters_step : State → List Filter → Stepped
+filters_step state filters = refilter_step state filters (flips_everywhere filters state.world)
+
+-- one more filter, or why it is refused
+abbrev pub add_filter_if : State → Filter → Option FilterRefused → Stepped
+add_filter_if state filter None = filters_step state (state.filters ++ filter ∷ [])
+add_filter_if state filter (Some reason) = refusal_step state (filter_text filter.name reason)
+
+-- the filters as they would be, where the name that is given is one of a filter
+abbrev pub planned_step : State → List ℕ → Option (List Filter) → Stepped
+planned_step state name None = refusal_step state (no_such_filter name)
+planned_step state name (Some filters) = filters_step state filters
+
+-- what `/filter` asks for
+abbrev pub filter_step : State → FilterChange → Stepped
+filter_step state (filtering.Add name buffers tags pattern) =
+    add_filter_if state (new_filter name buffers tags pattern)
+    (refusal_of_filter state.oracle state.filters name pattern)
+filter_step state (filtering.Delete name) = planned_step state name
+    (filters_without name state.filters)
+filter_step state (filtering.Switch name switch) =
+    planned_step state (unwrap_or name []) (filters_switched name switch state.filters)

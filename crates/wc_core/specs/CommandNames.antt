@@ -8,7 +8,7 @@ use Rattle.wc_core.specs.Typed.{TypedCommand, Others, command}
 
 -- the commands that the core knows by itself, which blanks part
 unfoldable pub core_text : List ℕ
-core_text = codes "print buffer quit eval hotlist set unset save"
+core_text = codes "print buffer close quit eval filter hotlist set unset save"
 
 -- and those that servers know, with the letters by which some are known as well
 unfoldable pub server_text : List ℕ

@@ -54,6 +54,7 @@ state_with core rest = record {
   commands = core.commands;
   saved = core.saved;
   hotlist = core.hotlist;
+  filters = core.filters;
   servers = open_of core.servers.seats;
   used = core.servers.used;
   connects = core.connects;

@@ -1,5 +1,6 @@
 -- What contracts see of the core.
 use Rattle.std.specs.Prelude.{ℕ, Bool, List, Option}
+use Rattle.wc_filters.specs.declared.filter.Filter.{Filter}
 use Rattle.wc_hotlist.specs.declared.row.HotRow.{HotRow}
 use Rattle.wc_nickdiff.specs.Held.{OfBuffer}
 use Rattle.wc_options.specs.Options.{OptionsValue}
@@ -24,6 +25,8 @@ pub record CoreView : Type 0 where
   pub unwritten : Bool
   -- which buffers had lines that were displayed
   pub hotlist : List HotRow
+  -- the filters, in the order of adding
+  pub filters : List Filter
   -- the servers that have a link, or are to have one
   pub servers : ServersView
   -- the texts that were judged as patterns

@@ -8,7 +8,8 @@ use Rattle.wc_model.specs.declared.refused.ChangeRefused.{ChangeRefused}
 use Rattle.wc_model.specs.Apply.{refusal}
 use Rattle.wc_core.specs.CoreView.{CoreView}
 use Rattle.wc_core.specs.Contexts.{context_in}
-use Rattle.wc_core.specs.Step.{no_step, push_step, change_step, input_step, lines_step}
+use Rattle.wc_core.specs.Fitted.{fitted}
+use Rattle.wc_core.specs.Step.{no_step, push_step, made_step, input_step, lines_step}
 use Rattle.wc_core.specs.ServerSteps.{taken_step}
 use Rattle.wc_ircmsg.specs.declared.message.Message.{Message}
 use Rattle.wc_servers.specs.Seats.{ServerSeat}
@@ -24,17 +25,24 @@ use Rattle.wc_eval.specs.Verdicts.{Agrees, Stay}
 use Rattle.wc_core.specs.State.{State, Stepped}
 use Rattle.wc_core.specs.Contained.{Rest, state_with, starving_number, raised, Runs, RanOutOfMemory}
 
--- a change is made and told, or memory was refused
-abbrev pub MakesChange : CoreView → Change → CoreView → Type 0
-MakesChange old change new = ((refusal old.world change ≡ None)
-    × Runs old new (λ state. change_step state change)) ⊎ RanOutOfMemory old new
+-- a change is made as it is and told, or memory was refused
+abbrev pub Makes : CoreView → Change → CoreView → Type 0
+Makes old change new = ((refusal old.world change ≡ None)
+    × Runs old new (λ state. made_step state change)) ⊎ RanOutOfMemory old new
 
--- a change is refused for this reason, and nothing is told
-pub record RefusesChange (old : CoreView) (change : Change) (reason : ChangeRefused)
+-- it is refused for this reason, and nothing is told
+pub record Refuses (old : CoreView) (change : Change) (reason : ChangeRefused)
     (new : CoreView) : Type 0 where
   pub refused : refusal old.world change ≡ Some reason
   pub stays : new ≡ record old { pending = new.pending }
   pub touches : AreSameTouches old.pending new.pending
+
+-- the same of a change with the flags of lines that the filters give
+abbrev pub MakesChange : CoreView → Change → CoreView → Type 0
+MakesChange old change new = Makes old (fitted old.filters old.world change) new
+
+abbrev pub RefusesChange : CoreView → Change → ChangeRefused → CoreView → Type 0
+RefusesChange old change reason new = Refuses old (fitted old.filters old.world change) reason new
 
 -- what is to be pushed before a request of a client is answered
 abbrev pub push_before : Client → Request → State → Stepped

@@ -6,6 +6,8 @@ pub mod Contexts
 pub mod Evaluated
 pub mod EvaluatedSeen
 pub mod Events
+pub mod Filtering
+pub mod Fitted
 pub mod Inputs
 pub mod Limits
 pub mod LinksSeen

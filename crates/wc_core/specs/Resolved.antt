@@ -11,6 +11,8 @@ use Rattle.wc_buffers.specs.declared.refused.BufferRefused.{BufferRefused}
 use Rattle.wc_buffers.specs.declared.refused.BufferRefused.TheVariants as buffers
 use Rattle.wc_buffers.specs.Calls.{EntryGroups, buffer_of}
 use Rattle.wc_buffers.specs.declared.row.BufferRow.{BufferRow}
+use Rattle.wc_filters.specs.declared.refused.FilterRefused.{FilterRefused}
+use Rattle.wc_filters.specs.declared.refused.FilterRefused.TheVariants as filter
 use Rattle.wc_model.specs.declared.change.Change.{Change}
 use Rattle.wc_model.specs.declared.change.What.{What}
 use Rattle.wc_model.specs.declared.change.What.TheVariants as what
@@ -24,7 +26,8 @@ use Rattle.wc_options.specs.declared.refusal.SetRefused.TheVariants as option
 use Rattle.wc_session.specs.Names.{buffer_named}
 use Rattle.wc_core.specs.Typed.{TypedCommand, Nothing, Quits, Refused, Others, Prints, Adds, Closes}
 use Rattle.wc_core.specs.Typed.{Merges, Names, Changes, Sets, Unsets, Switches, Saves, Evaluates}
-use Rattle.wc_core.specs.Typed.{UsesHotlist}
+use Rattle.wc_core.specs.Typed.{UsesHotlist, UsesFilters}
+use Rattle.wc_core.specs.declared.typed_filter.FilterChange.{FilterChange}
 use Rattle.wc_core.specs.declared.typed_hotlist.HotlistUse.{HotlistUse}
 
 pub data Effect : Type 0 where
@@ -41,6 +44,8 @@ pub data Effect : Type 0 where
   SavesOptions : Effect
   -- rows of the hotlist are to be taken out by a command that is typed into a buffer
   ChangesHotlist : HotlistUse → Handle → Effect
+  -- the filters are to change
+  ChangesFilters : FilterChange → Effect
 
 -- ---- buffers that a command names
 
@@ -145,6 +150,7 @@ effect_of world moment buffer (Unsets name) = UnsetsOption name
 effect_of world moment buffer (Switches name) = switched (buffer_meant world.groups name)
 effect_of world moment buffer Saves = SavesOptions
 effect_of world moment buffer (UsesHotlist usage) = ChangesHotlist usage buffer
+effect_of world moment buffer (UsesFilters change) = ChangesFilters change
 effect_of world moment buffer (Evaluates usage text) = Stays
 
 -- ---- the texts of refusals
@@ -177,6 +183,16 @@ option_text name option.UnknownOption = codes "option: unknown: " ++ name
 option_text name (option.BadValue range) = codes "option: bad value, range " ++ range
 option_text name (option.TooManyServers limit) = codes "option: too many servers"
 option_text name option.NoMemory = []
+
+-- why a filter of this name is not added; want of memory is told by no line
+abbrev pub filter_text : List ℕ → FilterRefused → List ℕ
+filter_text name filter.NameTaken = codes "filter: name taken: " ++ name
+filter_text name filter.BadPattern = codes "filter: bad pattern"
+filter_text name filter.TooMany = codes "filter: too many"
+filter_text name filter.NoMemory = []
+
+abbrev pub no_such_filter : List ℕ → List ℕ
+no_such_filter name = codes "filter: no such name: " ++ name
 
 -- the change that tells a refusal: a line of the core buffer
 abbrev pub told_refusal : ℕ → List ℕ → Change

@@ -5,7 +5,7 @@ use Rattle.wc_buffers.specs.declared.refused.BufferRefused.TheVariants as buffer
 use Rattle.wc_core.specs.declared.resolve.Resolution.{Resolution}
 use Rattle.wc_core.specs.declared.resolve.Resolution.TheVariants as resolution
 use Rattle.wc_core.specs.Resolved.{Effect, Stays, Ends, Tells, Asks, SetsOption}
-use Rattle.wc_core.specs.Resolved.{UnsetsOption, SavesOptions, ChangesHotlist}
+use Rattle.wc_core.specs.Resolved.{UnsetsOption, SavesOptions, ChangesHotlist, ChangesFilters}
 
 abbrev pub outcome_of : Resolution → Effect
 outcome_of resolution.Stays = Stays
@@ -16,6 +16,7 @@ outcome_of (resolution.SetsOption pair) = SetsOption pair.name pair.value
 outcome_of (resolution.UnsetsOption name) = UnsetsOption name
 outcome_of resolution.SavesOptions = SavesOptions
 outcome_of (resolution.ChangesHotlist usage buffer) = ChangesHotlist usage buffer
+outcome_of (resolution.ChangesFilters change) = ChangesFilters change
 
 -- the name that a refusal tells
 abbrev pub name_in_refusal : BufferRefused → List ℕ

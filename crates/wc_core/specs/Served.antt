@@ -45,6 +45,7 @@ state_of core told = record {
   commands = core.commands;
   saved = core.saved;
   hotlist = core.hotlist;
+  filters = core.filters;
   servers = open_of core.servers.seats;
   used = core.servers.used;
   connects = core.connects;

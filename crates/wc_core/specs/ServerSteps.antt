@@ -1,7 +1,7 @@
 -- What follows of a server: the acts that it asks for, one by one, its lines, and its loss.
 use Rattle.std.specs.Prelude.{ℕ, ◌/◌, Bool, false, List, [], ◌∷◌, ◌++◌, map, flat_map}
 use Rattle.std.specs.Prelude.{codes, Option, Some, None, option_and_then, Result, Ok, Err}
-use Rattle.std.specs.Prelude.{if◌then◌else◌}
+use Rattle.std.specs.Prelude.{if◌then◌else◌, ◌==◌}
 use Rattle.std.specs.Str.{is_utf8}
 use Rattle.wc_text.specs.Lossy.{lossy_of}
 use Rattle.wc_text.specs.declared.names.Cause.{Cause}
@@ -14,7 +14,6 @@ use Rattle.wc_model.specs.declared.change.LineSpec.{LineSpec}
 use Rattle.wc_model.specs.declared.refused.ChangeRefused.{ChangeRefused}
 use Rattle.wc_model.specs.declared.change.What.{What}
 use Rattle.wc_model.specs.declared.change.What.TheVariants as what
-use Rattle.wc_model.specs.Apply.{refusal}
 use Rattle.wc_ircmsg.specs.declared.message.Message.{Message}
 use Rattle.wc_ircmsg.specs.declared.message.LineRefused.{LineRefused}
 use Rattle.wc_ircmsg.specs.Answers.{reading_of}
@@ -29,7 +28,7 @@ use Rattle.wc_servers.specs.Outs.{Out, SendsLine, Parts, quit_outs}
 use Rattle.wc_servers.specs.Seats.{ServerSeat, server_link, server_named, ended}
 use Rattle.wc_servers.specs.Texts.{is_change_text}
 use Rattle.wc_core.specs.Changing.{no_step, put_step, reach_step, then_does, change_step}
-use Rattle.wc_core.specs.Changing.{change_step_if, refusal_step}
+use Rattle.wc_core.specs.Changing.{change_step_if, refused, refusal_step}
 use Rattle.wc_core.specs.Resolved.{change_of, null, refusal_text, usec_of}
 use Rattle.wc_core.specs.State.{State, Serves, Quits, Stage, Stepped}
 
@@ -39,11 +38,19 @@ out_step state out = reach_step state (Serves out ∷ [])
 
 -- ---- acts, one by one
 
+-- the date of a line, in seconds: its own, or the moment where it has none
+abbrev pub own_date : ℕ → LineSpec → ℕ
+own_date moment line = if line.date == 0 then moment / 1000 else line.date
+
+-- and its microseconds
+abbrev pub own_usec : ℕ → LineSpec → ℕ
+own_usec moment line = if line.date == 0 then usec_of moment else line.usec
+
 -- lines have the moment at which they are printed, in seconds and microseconds
 abbrev pub dated_line : ℕ → LineSpec → LineSpec
 dated_line moment line = record line {
-  date = moment / 1000;
-  usec = usec_of moment;
+  date = own_date moment line;
+  usec = own_usec moment line;
   date_printed = moment / 1000;
   usec_printed = usec_of moment;
 }
@@ -65,8 +72,8 @@ told_step_if state change (Some reason) = say_step state (refusal_text reason)
 -- where it follows of a command
 abbrev pub try_step : Bool → State → Change → Stepped
 try_step tells state change = if is_change_text change.what then (
-    if tells then told_step_if state change (refusal state.world change)
-    else change_step_if state change (refusal state.world change)) else no_step state
+    if tells then told_step_if state change (refused state change)
+    else change_step_if state change (refused state change)) else no_step state
 
 -- a change of a buffer, where it is there
 abbrev pub on_step : Bool → State → What → Option Handle → Stepped

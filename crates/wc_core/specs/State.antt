@@ -2,6 +2,7 @@
 use Rattle.std.specs.Prelude.{ℕ, Bool, true, false, ◌||◌, List, [], ◌∷◌, ◌++◌, Option, None}
 use Rattle.wc_text.specs.declared.names.Cause.{Cause}
 use Rattle.wc_options.specs.Options.{OptionsValue}
+use Rattle.wc_filters.specs.declared.filter.Filter.{Filter}
 use Rattle.wc_hotlist.specs.declared.row.HotRow.{HotRow}
 use Rattle.wc_nicklist.specs.declared.item.Row.{Row}
 use Rattle.wc_model.specs.World.{World, first_world}
@@ -29,6 +30,8 @@ pub record State : Type 0 where
   pub saved : Option (List ℕ)
   -- which buffers had lines that were displayed since the hotlist was last cleared
   pub hotlist : List HotRow
+  -- the filters, in the order of adding
+  pub filters : List Filter
   -- the servers that have a link, or are to have one, in the order in which they were begun
   pub servers : List ServerSeat
   -- link numbers up to this one are used
@@ -102,6 +105,7 @@ first_state oracle options limit commands = record {
   commands = commands;
   saved = None;
   hotlist = [];
+  filters = [];
   servers = [];
   used = 0;
   connects = true;

@@ -20,7 +20,8 @@ use Rattle.wc_core.specs.Events.{Breaks, ListenFails}
 use Rattle.wc_core.specs.Limits.{client_limit}
 use Rattle.wc_core.specs.Contexts.{context_of}
 use Rattle.wc_core.specs.Resolved.{Effect, Stays, Ends as ResolvedEnds, Tells, Asks, SetsOption}
-use Rattle.wc_core.specs.Resolved.{UnsetsOption, SavesOptions, ChangesHotlist, effect_of}
+use Rattle.wc_core.specs.Resolved.{UnsetsOption, SavesOptions, ChangesHotlist, ChangesFilters}
+use Rattle.wc_core.specs.Resolved.{effect_of}
 use Rattle.wc_core.specs.State.{State, Closes, Stepped, has_end}
 use Rattle.wc_board.specs.Answered.{is_nicklist}
 use Rattle.wc_core.specs.Evaluated.{value_at, holds_at, answer_text, printed_value}
@@ -29,7 +30,8 @@ use Rattle.wc_core.specs.declared.typed_eval.EvalUse.TheVariants as eval
 use Rattle.wc_core.specs.Typed.{TypedCommand, Others, typed_line, lines_of_text, evaluation_of}
 pub use Rattle.wc_core.specs.Changing.{client_link, core_buffer, no_step, put_step, reach_step}
 pub use Rattle.wc_core.specs.Changing.{then_does, sends, told_to}
-pub use Rattle.wc_core.specs.Changing.{tell_all_step, change_step, change_step_if, refusal_step}
+pub use Rattle.wc_core.specs.Changing.{tell_all_step, made_step, change_step, change_step_if}
+pub use Rattle.wc_core.specs.Changing.{refused, refusal_step, filter_step, filters_step}
 pub use Rattle.wc_core.specs.Changing.{ask_step_if, ask_step, pushed_to, push_at, pushes_of}
 pub use Rattle.wc_core.specs.Changing.{push_step, set_step_if, set_step, unset_step_if, unset_step}
 pub use Rattle.wc_core.specs.Changing.{limit_change, limit_step, set_effect_step, unset_effect_step}
@@ -50,6 +52,7 @@ effect_step state (SetsOption name value) = set_effect_step state name value
 effect_step state (UnsetsOption name) = unset_effect_step state name
 effect_step state SavesOptions = save_step state
 effect_step state (ChangesHotlist usage buffer) = hotlist_step state usage buffer
+effect_step state (ChangesFilters change) = filter_step state change
 
 -- what one line comes to that is typed into a buffer and that the core knows by itself
 abbrev pub typed_step : State → Handle → TypedCommand → Stepped

@@ -7,6 +7,9 @@ use Rattle.wc_model.specs.declared.change.What.TheVariants.{SetVar, RemoveVar, P
 use Rattle.wc_model.specs.declared.change.What.TheVariants.{AddGroup, AddNick, RemoveGroup}
 use Rattle.wc_model.specs.declared.change.What.TheVariants.{RemoveNick, ChangeGroup, ChangeNick, Limit}
 use Rattle.wc_world.specs.Texts.{IsChangeText}
+use Rattle.wc_core.specs.Filtering.{IsFilterText}
+use Rattle.wc_core.specs.Resolved.{Effect, Stays, Ends, Tells, Asks, SetsOption, UnsetsOption}
+use Rattle.wc_core.specs.Resolved.{SavesOptions, ChangesHotlist, ChangesFilters}
 
 -- also the name of a variable that is to be taken out, which a refusal may tell
 abbrev pub WhatUtf8 : What → Type 0
@@ -32,3 +35,15 @@ WhatUtf8 (RemoveNick name) = ⊥
 WhatUtf8 (ChangeGroup item) = ⊥
 WhatUtf8 (ChangeNick item) = ⊥
 WhatUtf8 (Limit limit) = IsChangeText (Limit limit)
+
+-- the texts that a line comes to are UTF-8
+abbrev pub EffectUtf8 : Effect → Type 0
+EffectUtf8 Stays = Unit {0}
+EffectUtf8 Ends = Unit {0}
+EffectUtf8 (Tells text) = IsUtf8 text
+EffectUtf8 (Asks change) = WhatUtf8 change.what
+EffectUtf8 (SetsOption name value) = IsUtf8 name × IsUtf8 value
+EffectUtf8 (UnsetsOption name) = IsUtf8 name
+EffectUtf8 SavesOptions = Unit {0}
+EffectUtf8 (ChangesHotlist usage buffer) = Unit {0}
+EffectUtf8 (ChangesFilters change) = IsFilterText change

@@ -4,6 +4,8 @@ use Rattle.std.specs.Prelude.{filter, nat_eq, nat_lt, if◌then◌else◌, ◌==
 use Rattle.std.specs.List.{slice_split, starts_with}
 use Rattle.std.specs.Str.{bytes_eq}
 use Rattle.std.specs.Str.Parse.{digits_value}
+use Rattle.wc_filters.specs.declared.switch.Switch.{Switch}
+use Rattle.wc_filters.specs.declared.switch.Switch.TheVariants.{Enable, Disable, Toggle}
 use Rattle.wc_text.specs.Integer.{is_numeral}
 use Rattle.wc_text.specs.Words.{is_filled}
 use Rattle.wc_text.specs.Splits.{before, text_after, word_of, rest_of}
@@ -11,6 +13,8 @@ use Rattle.wc_model.specs.declared.change.What.{What}
 use Rattle.wc_model.specs.declared.change.What.TheVariants as what
 use Rattle.wc_core.specs.declared.typed_eval.EvalUse.{EvalUse}
 use Rattle.wc_core.specs.declared.typed_eval.EvalUse.TheVariants as eval
+use Rattle.wc_core.specs.declared.typed_filter.FilterChange.{FilterChange}
+use Rattle.wc_core.specs.declared.typed_filter.FilterChange.TheVariants as filtering
 use Rattle.wc_core.specs.declared.typed_hotlist.HotlistUse.{HotlistUse}
 use Rattle.wc_core.specs.declared.typed_hotlist.HotlistUse.TheVariants as hotlist
 
@@ -43,6 +47,8 @@ pub data TypedCommand : Type 0 where
   Saves : TypedCommand
   -- rows of the hotlist are to be taken out
   UsesHotlist : HotlistUse → TypedCommand
+  -- the filters are to change
+  UsesFilters : FilterChange → TypedCommand
   -- a text that is evaluated, and what becomes of it
   Evaluates : EvalUse → List ℕ → TypedCommand
 
@@ -228,12 +234,56 @@ abbrev pub eval_command : List ℕ → TypedCommand
 eval_command text = if is_first (codes "-n") text then eval_printed (rest_of text)
     else eval_text eval.Run text
 
+-- ---- `/filter`
+
+abbrev pub wrong_filter : TypedCommand
+wrong_filter = wrong_arguments (codes "filter")
+
+-- a filter whose pattern, the rest of the text with its trailing blanks, is not empty
+abbrev pub filter_with : List ℕ → List ℕ → List ℕ → List ℕ → TypedCommand
+filter_with name buffers tags [] = wrong_filter
+filter_with name buffers tags (b ∷ pattern) =
+    UsesFilters (filtering.Add name buffers tags (b ∷ pattern))
+
+-- three words, and the pattern after them
+abbrev pub add_filter : List ℕ → TypedCommand
+add_filter text = filter_with (word_of text) (second_of text) (word_of (after_second text))
+    (rest_of (after_second text))
+
+-- one word, and nothing after it
+abbrev pub one_filter : (List ℕ → FilterChange) → List ℕ → TypedCommand
+one_filter change [] = wrong_filter
+one_filter change (b ∷ text) = if nat_lt 0 (length (rest_of (b ∷ text))) then wrong_filter
+    else UsesFilters (change (word_of (b ∷ text)))
+
+-- those of a name, or without one all
+abbrev pub switch_filters : Switch → List ℕ → TypedCommand
+switch_filters switch [] = UsesFilters (filtering.Switch None switch)
+switch_filters switch (b ∷ text) = one_filter (λ name. filtering.Switch (Some name) switch)
+    (b ∷ text)
+
+abbrev pub filter_word : List ℕ → List ℕ → TypedCommand
+filter_word word text =
+    if bytes_eq word (codes "add") then add_filter text else (
+    if bytes_eq word (codes "del") then one_filter filtering.Delete text else (
+    if bytes_eq word (codes "enable") then switch_filters Enable text else (
+    if bytes_eq word (codes "disable") then switch_filters Disable text else (
+    if bytes_eq word (codes "toggle") then switch_filters Toggle text else wrong_filter))))
+
+abbrev pub filter_command : List ℕ → TypedCommand
+filter_command text = filter_word (word_of text) (rest_of text)
+
 -- ---- commands
 
 -- `/quit` has no words after it
 abbrev pub quit_command : List ℕ → TypedCommand
 quit_command [] = Quits
 quit_command (b ∷ text) = wrong_arguments (codes "quit")
+
+-- nor has `/close`
+abbrev pub close_here : List ℕ → TypedCommand
+close_here [] = Closes None
+close_here (b ∷ text) = wrong_arguments (codes "close")
 
 -- what clients type as they show another buffer; that all of it was read means nothing here
 abbrev pub input_command : List ℕ → TypedCommand
@@ -258,8 +308,10 @@ abbrev pub command : List ℕ → List ℕ → TypedCommand
 command name rest =
     if bytes_eq name (codes "print") then print_command rest else (
     if bytes_eq name (codes "buffer") then buffer_command rest else (
+    if bytes_eq name (codes "close") then close_here rest else (
     if bytes_eq name (codes "quit") then quit_command rest else (
-    if bytes_eq name (codes "eval") then eval_command rest else news_command name rest)))
+    if bytes_eq name (codes "eval") then eval_command rest else (
+    if bytes_eq name (codes "filter") then filter_command rest else news_command name rest)))))
 
 -- what one line asks for after a `/`
 abbrev pub slash_command : List ℕ → TypedCommand

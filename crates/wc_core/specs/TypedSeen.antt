@@ -15,14 +15,25 @@ use Rattle.wc_core.specs.declared.typed.CommandText.{CommandText}
 use Rattle.wc_core.specs.declared.typed.CommandText.TheVariants as asked
 use Rattle.wc_core.specs.Typed.{TypedCommand, Nothing, Quits, Refused, Others, Prints, Adds, Closes}
 use Rattle.wc_core.specs.declared.typed_eval.EvalUse.{EvalUse}
+use Rattle.wc_core.specs.declared.typed_filter.FilterUse.{FilterUse}
+use Rattle.wc_core.specs.declared.typed_filter.FilterUse.TheVariants as usage
+use Rattle.wc_core.specs.declared.typed_filter.FilterChange.{FilterChange}
+use Rattle.wc_core.specs.declared.typed_filter.FilterChange.TheVariants as filtering
 use Rattle.wc_core.specs.Typed.{Merges, Names, Changes, Sets, Unsets, Switches, Saves, Evaluates}
-use Rattle.wc_core.specs.Typed.{UsesHotlist, hotlist_value, lines_of_text, tags_of}
+use Rattle.wc_core.specs.Typed.{UsesHotlist, UsesFilters, hotlist_value, lines_of_text, tags_of}
 use Rattle.wc_core.specs.Typed.{wrong_buffer, some_text, without_words, starts}
 
 -- a word that was found
 abbrev pub word_in : Option (Bor (List ℕ)) → Option (List ℕ)
 word_in None = None
 word_in (Some word) = Some word.now
+
+-- a change of filters whose texts are lent
+abbrev pub filters_meant : FilterUse → FilterChange
+filters_meant (usage.Add name buffers tags pattern) =
+    filtering.Add name.now buffers.now tags.now pattern.now
+filters_meant (usage.Delete name) = filtering.Delete name.now
+filters_meant (usage.Switch name switch) = filtering.Switch (word_in name) switch
 
 abbrev pub meaning : CommandText → TypedCommand
 meaning asked.Nothing = Nothing
@@ -50,6 +61,7 @@ meaning (asked.UnsetOption name) = Unsets name.now
 meaning (asked.Switch name) = Switches name.now
 meaning asked.Save = Saves
 meaning (asked.UseHotlist usage) = UsesHotlist usage
+meaning (asked.UseFilters change) = UsesFilters (filters_meant change)
 meaning (asked.Eval usage text) = Evaluates usage text.now
 
 -- two texts that were found, as one

@@ -6,14 +6,14 @@ ghost use Rattle.wc_board.specs.BoardView.{first_board};
 use crate::command_names::CommandNames;
 use std::alloc::Global;
 use wc_board::Board;
-use wc_eval::Verdicts;
 use wc_hotlist::Hotlist;
+use wc_rules::Rules;
 use wc_text::NoMemory;
 
-/// The core buffer alone, no verdict, no news, and the names of commands.
+/// The core buffer alone, no rules, no news, and the names of commands.
 pub(crate) struct Beginning {
     pub(crate) board: Board,
-    pub(crate) verdicts: Verdicts,
+    pub(crate) rules: Rules,
     pub(crate) hotlist: Hotlist,
     pub(crate) command_names: CommandNames,
 }
@@ -24,16 +24,17 @@ impl Beginning {
         requires some { 1 ≤ limit }
         requires most { limit ≤ 4096 }
         ensures board { IfOk result (λ beginning. beginning.board ≡ first_board limit) }
-        ensures unjudged { IfOk result (λ beginning. beginning.verdicts.rows ≡ []) }
+        ensures unjudged { IfOk result (λ beginning. beginning.rules.verdicts.rows ≡ []) }
+        ensures filters { IfOk result (λ beginning. beginning.rules.filters ≡ []) }
         ensures hotlist { IfOk result (λ beginning. beginning.hotlist ≡ []) }
     {
         let hotlist = Hotlist::new(alloc)?;
         let command_names = CommandNames::new(alloc)?;
-        let verdicts = Verdicts::new(alloc)?;
+        let rules = Rules::new(alloc)?;
         let board = Board::new(alloc, limit)?;
         Ok(Beginning {
             board,
-            verdicts,
+            rules,
             hotlist,
             command_names,
         })

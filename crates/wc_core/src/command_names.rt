@@ -13,7 +13,7 @@ use wc_text::{Items, NoMemory, Text, words};
 fn core_text() -> &'static [u8]
     ensures { result.now ≡ core_text }
 {
-    b"print buffer quit eval hotlist set unset save"
+    b"print buffer close quit eval filter hotlist set unset save"
 }
 
 /// The names of the commands that servers know, which blanks part.

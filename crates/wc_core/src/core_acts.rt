@@ -4,13 +4,13 @@ ghost use Rattle.std.specs.Prelude.{◌≡◌, ◌≢◌, true, false};
 ghost use Rattle.wc_core.specs.Resolved.{change_of, null};
 ghost use Rattle.wc_core.specs.Contained.{Runs};
 ghost use Rattle.wc_core.specs.Served.{ChangesBuffers, ChangesServers};
+ghost use Rattle.wc_core.specs.ServerSteps.{own_date, own_usec};
 ghost use Rattle.wc_core.specs.ServerSteps.{dated, say_step, told_step_if, try_step, on_step};
 ghost use Rattle.wc_core.specs.ServerSteps.{send_step, act_step};
 ghost use Rattle.wc_core.specs.ServerSteps.{acts_step, leave_in, loss_step_if, server_acts_step};
 ghost use Rattle.wc_outside.specs.Keyed.{at_key};
 ghost use Rattle.wc_buffers.specs.Calls.{handle_of_name};
-ghost use Rattle.wc_core.specs.Step.{change_step_if};
-ghost use Rattle.wc_model.specs.Apply.{refusal};
+ghost use Rattle.wc_core.specs.Step.{change_step_if, refused};
 ghost use Rattle.wc_model.specs.declared.change.What.TheVariants as what;
 ghost use Rattle.wc_world.specs.Texts.{IsChangeText};
 ghost use Rattle.wc_servers.specs.Seats.{server_link, seat_link, is_open_at};
@@ -20,21 +20,45 @@ use crate::refusals::refusal_text;
 use crate::resolve::usec_of;
 use wc_buffers::BufferSpec;
 use wc_irc::Act;
-use wc_model::{Change, What};
+use wc_model::{Change, LineSpec, What};
 use wc_servers::{is_change_text, is_utf8};
 use wc_text::{Cause, Handle, Items, LinkId, NoMemory, Text};
 
 /// The handle of no buffer, which a change has that adds one or is of no one buffer.
 pub(crate) const NULL: Handle = Handle(0);
 
-/// What is to be done at this moment, in milliseconds since 1970: a line has it as its date.
+/// The date of a line, in seconds since 1970: its own, or this moment where it has none.
+fn own_date(moment: u64, line: &LineSpec) -> u64
+    ensures { result ≡ own_date moment line.now }
+{
+    if line.date == 0 {
+        moment / 1000
+    } else {
+        line.date
+    }
+}
+
+/// The microseconds of the date of a line.
+fn own_usec(moment: u64, line: &LineSpec) -> u32
+    ensures { result ≡ own_usec moment line.now }
+{
+    if line.date == 0 {
+        usec_of(moment)
+    } else {
+        line.usec
+    }
+}
+
+/// What is to be done at this moment, in milliseconds since 1970: a line is printed at it, and has it
+/// as its date where it has none.
 fn dated(moment: u64, what: What) -> What
     ensures { result ≡ dated moment what }
 {
     match what {
         What::Print(mut line) => {
-            line.date = moment / 1000;
-            line.usec = usec_of(moment);
+            let date = own_date(moment, &line);
+            line.usec = own_usec(moment, &line);
+            line.date = date;
             line.date_printed = moment / 1000;
             line.usec_printed = usec_of(moment);
             What::Print(line)
@@ -185,7 +209,7 @@ impl Core {
     fn tell_change(&mut self, change: Change)
         requires { IsChangeText change.what }
         ensures does { Runs self.old self.new
-            (λ state. told_step_if state change (refusal state.world change)) }
+            (λ state. told_step_if state change (refused state change)) }
         ensures stays { ChangesBuffers self.old self.new }
     {
         let Some(reason) = self.change(change) else {
@@ -212,7 +236,7 @@ impl Core {
     pub(crate) fn make_change(&mut self, change: Change)
         requires { IsChangeText change.what }
         ensures does { Runs self.old self.new
-            (λ state. change_step_if state change (refusal state.world change)) }
+            (λ state. change_step_if state change (refused state change)) }
         ensures stays { ChangesBuffers self.old self.new }
     {
         let _refused = self.change(change);

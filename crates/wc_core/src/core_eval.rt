@@ -17,7 +17,6 @@ use crate::evaluated::Surroundings;
 use crate::resolve::printed_value;
 use crate::typed::other_in;
 use crate::typed_eval::{EvalUse, evaluation_in};
-use wc_eval::{condition, eval};
 use wc_text::{Handle, NoMemory, Text};
 
 /// Whether a condition holds, as a text.
@@ -140,7 +139,7 @@ impl Core {
     {
         let text = Text::from_slice(self.alloc, text)?;
         let scope = around.scope(&self.options);
-        eval(self.alloc, scope, &mut self.verdicts, &text)
+        self.rules.eval(scope, &text)
     }
 
     /// Whether a condition holds on a buffer.
@@ -163,7 +162,7 @@ impl Core {
     {
         let text = Text::from_slice(self.alloc, text)?;
         let scope = around.scope(&self.options);
-        condition(self.alloc, scope, &mut self.verdicts, &text)
+        self.rules.condition(scope, &text)
     }
 
     /// What a text may name beside options that is evaluated on a buffer.

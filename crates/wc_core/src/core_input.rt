@@ -5,11 +5,13 @@ ghost use Rattle.std.specs.Str.{IsUtf8};
 ghost use Rattle.wc_buffers.specs.Calls.{is_there};
 ghost use Rattle.wc_world.specs.Texts.{IsChangeText};
 ghost use Rattle.wc_core.specs.Typed.{typed_line, lines_of_text};
+ghost use Rattle.wc_core.specs.ResolvedSeen.{outcome_of};
 ghost use Rattle.wc_core.specs.Step.{refusal_step, ask_step, typed_step, input_step, lines_step};
-ghost use Rattle.wc_core.specs.Texts.{WhatUtf8};
+ghost use Rattle.wc_core.specs.Step.{effect_step};
+ghost use Rattle.wc_core.specs.Texts.{EffectUtf8, WhatUtf8};
 ghost use Rattle.wc_core.specs.Contained.{Runs};
 ghost use Rattle.wc_core.specs.Served.{ChangesBuffers};
-ghost use Rattle.wc_core.specs.Inputs.{MakesChange, RefusesChange, GoesOn, Stops};
+ghost use Rattle.wc_core.specs.Inputs.{Makes, MakesChange, Refuses, RefusesChange, GoesOn, Stops};
 
 use crate::core_hotlist::News;
 use crate::core_state::Core;
@@ -100,15 +102,26 @@ impl Core {
         let _texts = self.board.world().buffers().groups();
         let asked = read_typed(line);
         match resolve(self.alloc, self.board.world(), self.moment, buffer, asked) {
-            Ok(Resolution::Stays) => {}
-            Ok(Resolution::Ends) => self.quit(),
-            Ok(Resolution::Tells(text)) => self.tell_refusal(text),
-            Ok(Resolution::Asks(change)) => self.ask_after_part(change),
-            Ok(Resolution::SetsOption(pair)) => self.set_option(&pair),
-            Ok(Resolution::UnsetsOption(name)) => self.unset_option(&name),
-            Ok(Resolution::SavesOptions) => self.save(),
-            Ok(Resolution::ChangesHotlist(usage, own)) => self.use_hotlist(usage, own),
+            Ok(resolution) => self.do_effect(resolution),
             Err(NoMemory) => self.starve(),
+        }
+    }
+
+    /// Does what a line came to.
+    fn do_effect(&mut self, resolution: Resolution)
+        requires { EffectUtf8 (outcome_of resolution) }
+        ensures { Runs self.old self.new (λ state. effect_step state (outcome_of resolution)) }
+    {
+        match resolution {
+            Resolution::Stays => {}
+            Resolution::Ends => self.quit(),
+            Resolution::Tells(text) => self.tell_refusal(text),
+            Resolution::Asks(change) => self.ask_after_part(change),
+            Resolution::SetsOption(pair) => self.set_option(&pair),
+            Resolution::UnsetsOption(name) => self.unset_option(&name),
+            Resolution::SavesOptions => self.save(),
+            Resolution::ChangesHotlist(usage, buffer) => self.use_hotlist(usage, buffer),
+            Resolution::ChangesFilters(change) => self.change_filters(change),
         }
     }
 
@@ -141,12 +154,29 @@ impl Core {
         }
     }
 
-    /// Makes a change, and tells it to each client that asked for its event. It answers why the
-    /// change is refused, and nothing where it is made or memory was refused.
+    /// Makes a change with the flags of lines that the filters give, and tells it to each client that
+    /// asked for its event. It answers why the change is refused, and nothing where it is made or memory
+    /// was refused.
     pub(crate) fn change(&mut self, change: Change) -> Option<ChangeRefused>
         requires { IsChangeText change.what }
         ensures made { result ≡ None → MakesChange self.old change self.new }
         ensures refused { IfSome result (λ reason. RefusesChange self.old change reason self.new) }
+        ensures stays { ChangesBuffers self.old self.new }
+    {
+        match self.fit(change) {
+            Ok(fitted) => self.make(fitted),
+            Err(NoMemory) => {
+                self.starve();
+                None
+            }
+        }
+    }
+
+    /// The same of a change as it is.
+    fn make(&mut self, change: Change) -> Option<ChangeRefused>
+        requires { IsChangeText change.what }
+        ensures made { result ≡ None → Makes self.old change self.new }
+        ensures refused { IfSome result (λ reason. Refuses self.old change reason self.new) }
         ensures stays { ChangesBuffers self.old self.new }
     {
         let _before = self.board.world();

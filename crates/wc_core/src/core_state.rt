@@ -35,10 +35,10 @@ use std::alloc::Global;
 use std::marker::Model;
 use std::mem;
 use wc_board::Board;
-use wc_eval::Verdicts;
 use wc_hotlist::Hotlist;
 use wc_options::Options;
 use wc_relaycmd::{Request, read_request};
+use wc_rules::Rules;
 use wc_servers::Servers;
 use wc_session::{Outcome, RequestContext};
 use wc_text::{Arrival, Cause, Handle, LinkId, NoMemory, Text};
@@ -53,8 +53,8 @@ pub struct Core {
     pub(crate) options: Options,
     pub(crate) board: Board,
     pub(crate) servers: Servers,
-    /// The texts that were judged as patterns.
-    pub(crate) verdicts: Verdicts,
+    /// The texts that were judged as patterns, and the filters.
+    pub(crate) rules: Rules,
     pub(crate) moment: u64,
     commands: Vec<String>,
     /// The text of the options that was saved last, and whether the loop is still to write it.
@@ -92,8 +92,9 @@ impl Model for Core {
       saved = core.saved;
       unwritten = core.unwritten;
       hotlist = core.hotlist;
+      filters = core.rules.filters;
       servers = core.servers;
-      verdicts = core.verdicts;
+      verdicts = core.rules.verdicts;
       connects = core.connects;
       starved = core.starved;
       cuts = core.cuts;
@@ -117,7 +118,7 @@ impl Core {
         let made = Beginning::new(alloc, most_lines(&options))?;
         let Beginning {
             board,
-            verdicts,
+            rules,
             hotlist,
             command_names,
         } = made;
@@ -126,7 +127,7 @@ impl Core {
             options,
             board,
             servers: Servers::new(alloc),
-            verdicts,
+            rules,
             moment: 0,
             commands,
             saved: None,

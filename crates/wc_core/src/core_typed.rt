@@ -78,7 +78,7 @@ impl Core {
     }
 
     /// Tells a refusal whose text is these two.
-    fn refuse(&mut self, front: &[u8], name: &[u8])
+    pub(crate) fn refuse(&mut self, front: &[u8], name: &[u8])
         requires { IsUtf8 (front.now ++ name.now) }
         ensures { Runs self.old self.new
             (λ state. refusal_step state (front.now ++ name.now)) }

@@ -6,6 +6,7 @@ mod command_names;
 mod core_acts;
 mod core_connect;
 mod core_eval;
+mod core_filters;
 mod core_hotlist;
 mod core_input;
 mod core_links;
@@ -22,6 +23,7 @@ mod resolve;
 mod typed;
 mod typed_buffer;
 mod typed_eval;
+mod typed_filter;
 mod typed_hotlist;
 
 pub use command_names::CommandNames;

@@ -1,9 +1,10 @@
 ghost use Rattle.std.specs.Prelude.{◌≡◌, ◌++◌, IfOk, codes};
-ghost use Rattle.wc_core.specs.Resolved.{buffer_text, option_text, refusal_text};
+ghost use Rattle.wc_core.specs.Resolved.{buffer_text, filter_text, option_text, refusal_text};
 ghost use Rattle.wc_core.specs.ResolvedSeen.{name_in_refusal};
 
 use std::alloc::Global;
 use wc_buffers::BufferRefused;
+use wc_filters::FilterRefused;
 use wc_model::ChangeRefused;
 use wc_options::SetRefused;
 use wc_text::{NoMemory, Text};
@@ -72,6 +73,22 @@ pub(crate) fn option_text(
             Text::from_slice(alloc, b"option: too many servers")
         }
         SetRefused::NoMemory => Ok(Text::new(alloc)),
+    }
+}
+
+/// The text that tells why a filter of this name is not added.
+pub(crate) fn filter_text(
+    alloc: Global,
+    name: &[u8],
+    refused: &FilterRefused,
+) -> Result<Text, NoMemory>
+    ensures { IfOk result (λ text. text ≡ filter_text name.now refused.now) }
+{
+    match refused {
+        FilterRefused::NameTaken => joined_texts(alloc, b"filter: name taken: ", name),
+        FilterRefused::BadPattern => Text::from_slice(alloc, b"filter: bad pattern"),
+        FilterRefused::TooMany => Text::from_slice(alloc, b"filter: too many"),
+        FilterRefused::NoMemory => Ok(Text::new(alloc)),
     }
 }
 

@@ -1,6 +1,6 @@
 ghost use Rattle.std.specs.Option.{option_copied};
 ghost use Rattle.std.specs.Prelude.{◌≡◌, IfOk, ◌++◌, [], ℕ, ◌^◌, ◌-◌, min};
-ghost use Rattle.wc_core.specs.Resolved.{SetsOption, UnsetsOption, switched};
+ghost use Rattle.wc_core.specs.Resolved.{ChangesFilters, SetsOption, UnsetsOption, switched};
 ghost use Rattle.wc_core.specs.Resolved.{Asks, Tells, no_such_buffer, change_of, buffer_meant};
 ghost use Rattle.wc_core.specs.Resolved.{of_meant, of_named, effect_of, line_spec, core_spec, usec_of};
 ghost use Rattle.wc_core.specs.Resolved.{plugin_in, rename_of, told_refusal, first_of_number};
@@ -8,13 +8,14 @@ ghost use Rattle.wc_core.specs.Resolved.{first_in, null};
 ghost use Rattle.wc_core.specs.ResolvedSeen.{outcome_of};
 ghost use Rattle.wc_core.specs.Evaluated.{printed_value};
 ghost use Rattle.wc_core.specs.Typed.{Merges, tags_of};
-ghost use Rattle.wc_core.specs.TypedSeen.{meaning, word_in};
+ghost use Rattle.wc_core.specs.TypedSeen.{filters_meant, meaning, word_in};
 ghost use Rattle.wc_model.specs.declared.change.Change.{Change};
 ghost use Rattle.wc_model.specs.declared.change.What.TheVariants as what;
 ghost use Rattle.wc_text.specs.declared.names.Handle.{Handle};
 
 use crate::refusals::joined_texts;
 use crate::typed::{CommandText, read_number, read_tags};
+use crate::typed_filter::{FilterChange, FilterUse};
 use crate::typed_hotlist::HotlistUse;
 use std::alloc::Global;
 use wc_buffers::{BufferRow, BufferSpec, Buffers};
@@ -42,6 +43,8 @@ pub(crate) enum Resolution {
     SavesOptions,
     /// Rows of the hotlist are to be taken out.
     ChangesHotlist(HotlistUse, Handle),
+    /// The filters are to change.
+    ChangesFilters(FilterChange),
 }
 
 fn asks(buffer: Handle, what: What) -> Resolution
@@ -159,6 +162,41 @@ fn unset_option(alloc: Global, name: &[u8]) -> Result<Resolution, NoMemory>
     Ok(Resolution::UnsetsOption(name))
 }
 
+/// A change of filters with texts of its own.
+fn own_change(alloc: Global, usage: FilterUse<'_>) -> Result<FilterChange, NoMemory>
+    ensures { IfOk result (λ change. change ≡ filters_meant usage.entry) }
+{
+    match usage {
+        FilterUse::Add {
+            name,
+            buffers,
+            tags,
+            pattern,
+        } => Ok(FilterChange::Add {
+            name: Text::from_slice(alloc, name)?,
+            buffers: Text::from_slice(alloc, buffers)?,
+            tags: Text::from_slice(alloc, tags)?,
+            pattern: Text::from_slice(alloc, pattern)?,
+        }),
+        FilterUse::Delete(name) => Ok(FilterChange::Delete(Text::from_slice(alloc, name)?)),
+        FilterUse::Switch { name: None, switch } => Ok(FilterChange::Switch { name: None, switch }),
+        FilterUse::Switch {
+            name: Some(name),
+            switch,
+        } => Ok(FilterChange::Switch {
+            name: Some(Text::from_slice(alloc, name)?),
+            switch,
+        }),
+    }
+}
+
+fn change_filters(alloc: Global, usage: FilterUse<'_>) -> Result<Resolution, NoMemory>
+    ensures { IfOk result (λ r. outcome_of r ≡ ChangesFilters (filters_meant usage.entry)) }
+{
+    let change = own_change(alloc, usage)?;
+    Ok(Resolution::ChangesFilters(change))
+}
+
 /// What a line that was typed into a buffer at this moment, in milliseconds since 1970, comes to.
 #[tactic(auto, unfolding(crate::specs::Resolved::effect_of))]
 pub(crate) fn resolve(
@@ -211,6 +249,7 @@ pub(crate) fn resolve(
         CommandText::Switch(name) => switch(alloc, buffer_meant(buffers, name)),
         CommandText::Save => Ok(Resolution::SavesOptions),
         CommandText::UseHotlist(usage) => Ok(Resolution::ChangesHotlist(usage, buffer)),
+        CommandText::UseFilters(usage) => change_filters(alloc, usage),
         CommandText::Eval { usage: _, text: _ } => Ok(Resolution::Stays),
     }
 }

@@ -1,5 +1,6 @@
 ghost use Rattle.std.specs.Prelude.{◌≡◌, Some, ◌++◌, ◌∷◌, [], IfOk, OnOk, filter};
-ghost use Rattle.wc_core.specs.Typed.{no_text_here, unknown_command, wrong_arguments, quit_command};
+ghost use Rattle.wc_core.specs.Typed.{no_text_here, unknown_command, wrong_arguments};
+ghost use Rattle.wc_core.specs.Typed.{close_here, quit_command};
 ghost use Rattle.wc_core.specs.Typed.{command, slash_command, typed_line, print_words};
 ghost use Rattle.wc_core.specs.Typed.{set_option, set_command, unset_command, option_command};
 ghost use Rattle.wc_core.specs.Typed.{save_command};
@@ -10,6 +11,7 @@ ghost use Rattle.wc_text.specs.Words.{is_filled};
 
 use crate::typed_buffer::{buffer_command, only_word};
 use crate::typed_eval::{EvalUse, eval_command};
+use crate::typed_filter::{FilterUse, filter_command};
 use crate::typed_hotlist::{HotlistUse, news_command};
 use std::alloc::Global;
 use wc_text::{Items, NoMemory, Text, cut_word, split_once};
@@ -76,6 +78,8 @@ pub enum CommandText<'a> {
     Save,
     /// Rows of the hotlist are to be taken out.
     UseHotlist(HotlistUse),
+    /// The filters are to change.
+    UseFilters(FilterUse<'a>),
     /// A text that is evaluated.
     Eval {
         usage: EvalUse,
@@ -114,6 +118,17 @@ fn quit_command(text: &[u8]) -> CommandText<'_>
         CommandText::Quit
     } else {
         wrong_arguments(b"quit")
+    }
+}
+
+/// The end of the buffer into which it was typed.
+fn close_here(text: &[u8]) -> CommandText<'_>
+    ensures { meaning result ≡ close_here text.now }
+{
+    if text.is_empty() {
+        CommandText::Close(None)
+    } else {
+        wrong_arguments(b"close")
     }
 }
 
@@ -178,10 +193,14 @@ fn command<'a>(name: &'a [u8], text: &'a [u8]) -> CommandText<'a>
         print_command(text)
     } else if name == b"buffer".as_slice() {
         buffer_command(text)
+    } else if name == b"close".as_slice() {
+        close_here(text)
     } else if name == b"quit".as_slice() {
         quit_command(text)
     } else if name == b"eval".as_slice() {
         eval_command(text)
+    } else if name == b"filter".as_slice() {
+        filter_command(text)
     } else {
         news_command(name, text)
     }

@@ -28,6 +28,8 @@ impl Rules {
             IsPlan (refusal_of oracle self.old.filters name.now pattern.now)
             (self.old.filters ++ new_filter name.now buffers.now tags.now pattern.now ∷ [])
             result }
+        ensures added { IfOk result (λ plan. plan ≡ self.old.filters
+            ++ new_filter name.now buffers.now tags.now pattern.now ∷ []) }
         ensures fine { IfOk result (λ plan. AreFine self.new.verdicts plan) }
         ensures only { self.new ≡ record self.old { verdicts = self.new.verdicts } }
         ensures stay { Stay self.old.verdicts self.new.verdicts }

@@ -1,5 +1,13 @@
+use Rattle.std.proofs.Common.{ℕ, List, subst}
+use Rattle.wc_core.specs.Contained.{Runs}
+use Rattle.wc_core.specs.Step.{refusal_step}
 use Rattle.wc_core.proofs.CoreLemmas.{starves-as}
 use Rattle.wc_core.proofs.core_state.Core.refuse.Goals as goal
+
+pub returns-in-Ok : goal.returns-in-Ok
+returns-in-Ok c =
+    let P : List ℕ → Type 0 = λ text. Runs c.args.self.now c.tell_refusal.new.self (λ state. refusal_step state text) in
+    subst P c.in-Ok.ensures c.tell_refusal.ensures.does
 
 pub returns-in-Err : goal.returns-in-Err
 returns-in-Err c = λ told. starves-as c.args.self.now c.starve.new.self c.starve.ensures.counts c.starve.ensures.rises told _

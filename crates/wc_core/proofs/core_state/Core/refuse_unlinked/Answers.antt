@@ -1,5 +1,16 @@
+use Rattle.std.proofs.Common.{ℕ, List, ap, subst, ◌∙◌}
+use Rattle.std.specs.Option.{option_copied}
+use Rattle.wc_core.specs.CoreView.{CoreView}
+use Rattle.wc_core.specs.ServerTyped.{unlinked_text}
+use Rattle.wc_core.specs.Contained.{Runs}
+use Rattle.wc_core.specs.ServerSteps.{say_step}
 use Rattle.wc_core.proofs.CoreLemmas.{starves-as}
 use Rattle.wc_core.proofs.core_state.Core.refuse_unlinked.Goals as goal
+
+pub returns-in-Ok : goal.returns-in-Ok
+returns-in-Ok c =
+    let P : List ℕ → Type 0 = λ text. Runs c.args.self.now c.say.new.self (λ state. say_step state text) in
+    subst P (c.in-Ok.ensures ∙ ap (λ (core : CoreView). unlinked_text core.options (option_copied c.args.name)) c.self.view_is) c.say.ensures.does
 
 pub returns-in-Err : goal.returns-in-Err
 returns-in-Err c = λ told. starves-as c.args.self.now c.starve.new.self c.starve.ensures.counts c.starve.ensures.rises told _

@@ -1,5 +1,5 @@
 use Rattle.std.proofs.Common.{refl}
-use Rattle.wc_model.specs.Apply.{refusal}
+use Rattle.wc_core.specs.Changing.{refused}
 use Rattle.wc_core.specs.ServerSteps.{told_step_if}
 use Rattle.wc_core.proofs.PushLemmas.{Runs-over}
 use Rattle.wc_core.proofs.CoreLemmas.{starved_only}
@@ -14,5 +14,5 @@ returns-in-Ok-clause-does c = tells-refused c.args.self.now c.change.new.self c.
 
 pub returns-clause-does : goal.returns-clause-does
 returns-clause-does c =
-    Runs-over c.args.self.now c.change.new.self c.starve.new.self (λ state. told_step_if state c.args.change (refusal state.world c.args.change)) c.in-Some.ensures.refused.stays c.in-Some.ensures.refused.touches
-    (starved_only c.change.new.self c.starve.new.self (λ state. told_step_if state c.args.change (refusal state.world c.args.change)) c.starve.ensures.counts c.starve.ensures.rises)
+    Runs-over c.args.self.now c.change.new.self c.starve.new.self (λ state. told_step_if state c.args.change (refused state c.args.change)) c.in-Some.ensures.refused.stays c.in-Some.ensures.refused.touches
+    (starved_only c.change.new.self c.starve.new.self (λ state. told_step_if state c.args.change (refused state c.args.change)) c.starve.ensures.counts c.starve.ensures.rises)
