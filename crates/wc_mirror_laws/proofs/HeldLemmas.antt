@@ -34,7 +34,7 @@ use Rattle.wc_view.proofs.NickDump.{dump_shows as dump_shows_nicks}
 use Rattle.wc_view.proofs.NickNotice.{notice_shows as notice_shows_nicks, flag_shows as flag_shows_nicks, trim_shows as trim_shows_nicks}
 use Rattle.wc_board.specs.Told.{Told}
 use Rattle.wc_core.specs.State.{State}
-use Rattle.wc_core.specs.Step.{change_step}
+use Rattle.wc_core.specs.Step.{made_step}
 use Rattle.wc_mirror_laws.specs.Held.{HeldPart, Lines, Buffers, Nicks, NicksHeld, HeldOf, fold_unrefused, fold_one, HasToldNicks, Has}
 use Rattle.wc_mirror_laws.specs.Nicks.{AreListsKept}
 use Rattle.wc_mirror_laws.specs.Roots.{HasRoots}
@@ -152,7 +152,7 @@ nicks_heard own limit id held told new v part most is tells had rows roots =
 -- whoever had a part has it after the events that it heard of
 pub change_right : (which : HeldPart) (limit : Option ℕ) (id : List ℕ) (part : HeldOf which) (state : State) (change : Change) → state.world.limit ≤ 4096 → IsWorldKept state.world.limit state.world
     → AreListsKept state.world.next state.world.groups state.told → IsTold change.what → IsFree id → refusal state.world change ≡ None → Suits limit state.world → Suits limit (after state.world change) → Has which part state
-    → Has which (fold_all which limit id part (parts_messages (after state.world change) (heard_parts limit (after state.world change) (notice state.world change)))) (change_step state change).state
+    → Has which (fold_all which limit id part (parts_messages (after state.world change) (heard_parts limit (after state.world change) (notice state.world change)))) (made_step state change).state
 change_right Lines limit id part state change most kept lists told free good before then had =
     let w = state.world in
     let v = after w change in

@@ -6,26 +6,28 @@ use Rattle.wc_text.specs.declared.names.Handle.{Handle}
 use Rattle.wc_text.specs.Splits.{BeginsWithout}
 use Rattle.wc_buffers.specs.Calls.{is_there}
 use Rattle.wc_model.specs.declared.change.Change.{Change}
-use Rattle.wc_model.specs.World.{World}
-use Rattle.wc_model.specs.Apply.{refusal, refusal_of}
+use Rattle.wc_model.specs.Apply.{refusal_of}
 use Rattle.wc_options.specs.Number.{number_of, within, number_in}
 use Rattle.wc_options.specs.Options.{OptionsValue, refusal_of as option_refusal, value_of, with_value, without_value}
 use Rattle.wc_options.specs.declared.refusal.SetRefused.{SetRefused}
 use Rattle.wc_options.specs.declared.refusal.SetRefused.TheVariants.{UnknownOption}
-use Rattle.wc_core.specs.Resolved.{Effect, Stays, Ends as ResolvedEnds, Tells as TellsRefusal, Asks, SetsOption, UnsetsOption, SavesOptions, ChangesHotlist, effect_of, option_text}
+use Rattle.wc_core.specs.Resolved.{Effect, Stays, Ends as ResolvedEnds, Tells as TellsRefusal, Asks, SetsOption, UnsetsOption, SavesOptions, ChangesHotlist, ChangesFilters, effect_of, option_text}
 use Rattle.wc_core.specs.State.{State, Stepped, has_end}
-use Rattle.wc_core.specs.Step.{no_step, then_does, set_step_if, set_step, unset_step_if, unset_step, limit_change, limit_step, set_effect_step, unset_effect_step, ask_step, effect_step, other_of, input_by, input_step, lines_step, core_buffer, commands_step, start_step, plain_step, Evaluation, evaluated_by, input_with, eval_step, evaluation_at}
-use Rattle.wc_core.specs.Changing.{put_step}
+use Rattle.wc_core.specs.Step.{no_step, then_does, set_step_if, set_step, unset_step_if, unset_step, limit_change, limit_step, set_effect_step, unset_effect_step, refused, ask_step, effect_step, other_of, input_by, input_step, lines_step, core_buffer, commands_step, start_step, plain_step, Evaluation, evaluated_by, input_with, eval_step, evaluation_at}
+use Rattle.wc_core.specs.Changing.{put_step, save_step, hotlist_step}
+use Rattle.wc_core.specs.News.{rows_used}
 use Rattle.wc_core.specs.Limits.{lines_option, limit_set, limit_unset}
 use Rattle.wc_core.specs.ServerSteps.{before_step}
 use Rattle.wc_core.specs.ServerTyped.{connect_all_step}
 use Rattle.wc_core.specs.Typed.{typed_line, lines_of_text, evaluation_of}
 use Rattle.wc_mirror_laws.proofs.HotlistKept.{used_small}
-use Rattle.wc_mirror_laws.specs.Changes.{IsTold}
+use Rattle.wc_mirror_laws.proofs.HotlistNews.{news_used, rows_there}
+use Rattle.wc_mirror_laws.specs.Changes.{IsAsked}
 use Rattle.wc_mirror_laws.specs.Held.{HeldPart}
 use Rattle.wc_mirror_laws.specs.Kept.{IsStateKept}
-use Rattle.wc_mirror_laws.proofs.ChangeLemmas.{Tells, Tells-stays, Tells-then, Tells-changes, Tells-tells, Tells-asks}
+use Rattle.wc_mirror_laws.proofs.ChangeLemmas.{Tells, Tells-stays, Tells-then, Tells-changes, Tells-tells, Tells-asks, Tells-refilters}
 use Rattle.wc_mirror_laws.proofs.LimitLemmas.{counts_same}
+use Rattle.wc_mirror_laws.proofs.NewsLemmas.{news_put, news_by_command}
 use Rattle.wc_mirror_laws.proofs.ServedLemmas.{Tells-all, Tells-serves}
 use Rattle.wc_mirror_laws.proofs.ServerLemmas.{Tells-before, Tells-quits}
 use Rattle.wc_mirror_laws.proofs.TypedLemmas.{OnAsks, parted_text, typed_text, resolved_told}
@@ -66,10 +68,10 @@ unset_within name = by (bytes_eq name lines_option) where
 
 -- the options have no part in what is held
 Tells-options : (which : HeldPart) (limit : Option ℕ) (link : ℕ) (id : List ℕ) (state : State) (options : OptionsValue) → IsStateKept link state → Tells which limit link id state (put_step (record state { options = options }))
-Tells-options which limit link id state options kept = record { following = refl; kept = record { most = kept.most; world = kept.world; told = kept.told; texts = kept.texts; rows = kept.rows; first = kept.first }; plain = λ plain. plain; counts = counts_same state.world; spelt = tt; right = λ follows plain stays part had. had }
+Tells-options which limit link id state options kept = record { following = refl; kept = record { most = kept.most; world = kept.world; once = kept.once; shown = kept.shown; told = kept.told; texts = kept.texts; rows = kept.rows; news = kept.news; there = kept.there; first = kept.first }; plain = λ plain. plain; counts = counts_same state.world; spelt = tt; news = news_put state (record state { options = options }) [] refl refl; right = λ follows plain stays part had. had }
 
 -- a change, before which the channel of a buffer that is closed is left
-Tells-changed : (which : HeldPart) (limit : Option ℕ) (link : ℕ) (id : List ℕ) (state : State) (change : Change) → BeginsWithout 95 id → IsStateKept link state → IsTold change.what
+Tells-changed : (which : HeldPart) (limit : Option ℕ) (link : ℕ) (id : List ℕ) (state : State) (change : Change) → BeginsWithout 95 id → IsStateKept link state → IsAsked change.what
     → Tells which limit link id state (then_does (before_step state change) (λ next. ask_step next change))
 Tells-changed which limit link id state change free kept told =
     let first = Tells-before which limit link id free state change kept in
@@ -84,14 +86,14 @@ Tells-unsets which limit link id state name None free kept = Tells-tells which l
 Tells-unsets which limit link id state name (Some value) free kept = Tells-options which limit link id state (without_value state.options name) kept
 
 -- no other limit is refused
-limit_accepted : (world : World) (n : ℕ) → refusal world (limit_change n) ≡ None
+limit_accepted : (state : State) (n : ℕ) → refused state (limit_change n) ≡ None
 unfolding refusal_of
-limit_accepted world n = refl
+limit_accepted state n = refl
 
 -- another limit of lines, which is one that a world may have
 Tells-limits : (which : HeldPart) (limit : Option ℕ) (link : ℕ) (id : List ℕ) (state : State) (o : Option ℕ) → BeginsWithout 95 id → IsStateKept link state → IfSome o (λ n. (1 ≤ n) × (n ≤ 4096)) → Tells which limit link id state (limit_step state o)
 Tells-limits which limit link id state None free kept told = Tells-stays which limit link id state kept
-Tells-limits which limit link id state (Some n) free kept told = Tells-changes which limit link id state (limit_change n) free kept told (limit_accepted state.world n)
+Tells-limits which limit link id state (Some n) free kept told = Tells-changes which limit link id state (limit_change n) free kept told (limit_accepted state n)
 
 -- before an option of the limit has its value that is in effect
 Tells-set-effects : (which : HeldPart) (limit : Option ℕ) (link : ℕ) (id : List ℕ) (state : State) (name value : List ℕ) → BeginsWithout 95 id → IsStateKept link state → Tells which limit link id state (set_effect_step state name value)
@@ -113,8 +115,30 @@ Tells-resolved which limit link id state (TellsRefusal text) free kept told = Te
 Tells-resolved which limit link id state (Asks change) free kept told = Tells-changed which limit link id state change free kept told
 Tells-resolved which limit link id state (SetsOption name value) free kept told = Tells-set-effects which limit link id state name value free kept
 Tells-resolved which limit link id state (UnsetsOption name) free kept told = Tells-unset-effects which limit link id state name free kept
-Tells-resolved which limit link id state SavesOptions free kept told = record { following = refl; kept = record { most = kept.most; world = kept.world; told = kept.told; texts = kept.texts; rows = kept.rows; first = kept.first }; plain = λ plain. plain; counts = counts_same state.world; spelt = tt; right = λ follows plain stays part had. had }
-Tells-resolved which limit link id state (ChangesHotlist usage buffer) free kept told = record { following = refl; kept = record { most = kept.most; world = kept.world; told = kept.told; texts = kept.texts; rows = used_small usage buffer state.hotlist kept.rows; first = kept.first }; plain = λ plain. plain; counts = counts_same state.world; spelt = tt; right = λ follows plain stays part had. had }
+Tells-resolved which limit link id state SavesOptions free kept told = record { following = refl; kept = record { most = kept.most; world = kept.world; once = kept.once; shown = kept.shown; told = kept.told; texts = kept.texts; rows = kept.rows; news = kept.news; there = kept.there; first = kept.first }; plain = λ plain. plain; counts = counts_same state.world; spelt = tt; news = news_put state (save_step state).state [] refl refl; right = λ follows plain stays part had. had }
+Tells-resolved which limit link id state (ChangesHotlist usage buffer) free kept told =
+    let news = news_used state.world.groups usage buffer state.hotlist kept.news in
+    record {
+      following = refl;
+      kept = record {
+        most = kept.most;
+        world = kept.world;
+        once = kept.once;
+        shown = kept.shown;
+        told = kept.told;
+        texts = kept.texts;
+        rows = used_small usage buffer state.hotlist kept.rows;
+        news = news;
+        there = rows_there state.world.groups (rows_used usage buffer state.hotlist) news;
+        first = kept.first;
+      };
+      plain = λ plain. plain;
+      counts = counts_same state.world;
+      spelt = tt;
+      news = news_by_command state (hotlist_step state usage buffer).state usage buffer refl refl;
+      right = λ follows plain stays part had. had;
+    }
+Tells-resolved which limit link id state (ChangesFilters change) free kept told = Tells-refilters which limit link id state change free kept
 
 Tells-plain : (which : HeldPart) (limit : Option ℕ) (link : ℕ) (id : List ℕ) (state : State) (buffer : Handle) (line : List ℕ) → BeginsWithout 95 id → IsStateKept link state → IsUtf8 line
     → Tells which limit link id state (plain_step state buffer line)
@@ -202,7 +226,7 @@ opened_at state moment = record state { moment = moment; commands = [] }
 pub Tells-start : (which : HeldPart) (limit : Option ℕ) (link : ℕ) (id : List ℕ) (state : State) (moment : ℕ) → BeginsWithout 95 id → IsStateKept link state
     → Tells which limit link id (opened_at state moment) (start_step (opened_at state moment) state.commands)
 Tells-start which limit link id state moment free kept =
-    by (has_end one.acts) (Tells-commands which limit link id (opened_at state moment) state.commands free (record { most = kept.most; world = kept.world; told = kept.told; texts = tt; rows = kept.rows; first = kept.first }) kept.texts)
+    by (has_end one.acts) (Tells-commands which limit link id (opened_at state moment) state.commands free (record { most = kept.most; world = kept.world; once = kept.once; shown = kept.shown; told = kept.told; texts = tt; rows = kept.rows; news = kept.news; there = kept.there; first = kept.first }) kept.texts)
   where
     one : Stepped
     one = commands_step (opened_at state moment) state.commands

@@ -8,10 +8,12 @@ mod DiffItems
 mod DumpLemmas
 mod EventLemmas
 mod ExampleLemmas
+mod FlipLemmas
 mod HandleLemmas
 mod HeldLemmas
 mod IdLemmas
 mod HotlistKept
+mod HotlistNews
 mod InputLemmas
 mod LimitLemmas
 mod LineWorlds
@@ -20,6 +22,7 @@ mod MapLemmas
 mod MildCommands
 mod MildLemmas
 mod MildMessages
+mod NewsLemmas
 mod NickDumps
 mod NickRows
 mod NickWorlds
@@ -31,9 +34,10 @@ mod ReplyLemmas
 mod RootEvents
 mod RootLemmas
 mod RowLemmas
-mod RunLemmas
+pub mod RunLemmas
 mod ServedLemmas
 mod ServerLemmas
+pub mod ShownLemmas
 mod SizeLemmas
 mod SpeltLemmas
 mod StepLemmas

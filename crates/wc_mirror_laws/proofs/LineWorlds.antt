@@ -30,7 +30,7 @@ module _ (f : List Line → List Line) (none : f [] ≡ []) (w : World) where
   found_none None = sym none
   found_none (Some lines) = refl
 
-  changed_at : (q : ℕ) → unwrap_or (get changed_lines q) [] ≡ f (lines_at w q)
+  pub changed_at : (q : ℕ) → unwrap_or (get changed_lines q) [] ≡ f (lines_at w q)
   changed_at q =
       ap (λ o. unwrap_or o [])
       (get-from_entries nat_cmp_total (map (λ (e : ℕ × List Line). (e.0, f e.1)) (entries w.lines)) q ∙ find_mapped f q (entries w.lines) ∙ ap (option_map f) (sym (get-entries w.lines q)))
@@ -49,7 +49,7 @@ limited_at limit w q = changed_at (last_of limit) (none_last limit) w q
 
 -- ---- flags
 
-none_flipped : (flips : List Flip) → with_flips flips [] ≡ []
+pub none_flipped : (flips : List Flip) → with_flips flips [] ≡ []
 none_flipped [] = refl
 none_flipped (flip ∷ flips) = none_flipped flips
 

@@ -1,4 +1,4 @@
--- Changes whose lines have a level of 8 bits.
+-- Changes whose lines have a level of 8 bits, and that set no flags.
 use Rattle.std.proofs.Common.{◌≡◌, ℕ, Bool, true, false, cond, ◌&&◌, List, [], ◌∷◌, ◌++◌, map, Option, Some, None, refl, arith, nat_le, IsUtf8}
 use Rattle.std.specs.List.{AllByRecursion, flat_map, list_all}
 use Rattle.std.specs.Int.{w8}
@@ -19,11 +19,12 @@ use Rattle.wc_irc.specs.Lines.{line, said}
 use Rattle.wc_irc.specs.TalkActs.{on_found}
 use Rattle.wc_servers.specs.Texts.{is_pair_text, is_item_text, is_change_text}
 use Rattle.wc_core.specs.ServerSteps.{dated}
-use Rattle.wc_mirror_laws.specs.Changes.{IsTold}
+use Rattle.wc_mirror_laws.specs.Changes.{IsAsked}
 use Rattle.wc_mirror_laws.proofs.PrintLemmas.{level_fits}
 
 abbrev pub IsMild : What → Type 0
 IsMild (what.Print line) = FitsSigned w8 line.notify
+IsMild (what.Flips flips) = ⊥
 IsMild _ = Unit {0}
 
 -- ---- texts
@@ -48,8 +49,8 @@ pairs_text (pair ∷ pairs) e =
 item_name : (item : Item) → is_item_text item ≡ true → IsUtf8 item.name
 item_name item e = IsUtf8-from_is_utf8 item.name (both (is_utf8 item.name) (is_utf8 item.color && (is_utf8 item.prefix && is_utf8 item.prefix_color)) e).0
 
--- a mild change whose texts are UTF-8 is told
-pub mild_told : (w : What) → is_change_text w ≡ true → IsMild w → IsTold w
+-- a mild change whose texts are UTF-8 may be asked
+pub mild_told : (w : What) → is_change_text w ≡ true → IsMild w → IsAsked w
 unfolding is_change_text
 mild_told (what.Add spec) e mild =
     let vars = list_all is_pair_text spec.vars in
@@ -76,7 +77,7 @@ mild_told (what.Print line) e mild =
     let tags = (both (list_all is_utf8 line.tags) (is_utf8 line.prefix && is_utf8 line.message) e).0 in
     (All-from_recursion IsUtf8 line.tags (texts_utf8 line.tags tags), mild)
 mild_told what.Clear e mild = tt
-mild_told (what.Flips flips) e mild = tt
+mild_told (what.Flips flips) e mild = absurd mild
 mild_told (what.AddGroup parent item) e mild = item_name item (both (is_utf8 parent) (is_item_text item) e).1
 mild_told (what.AddNick group item) e mild = item_name item (both (is_utf8 group) (is_item_text item) e).1
 mild_told (what.RemoveGroup name) e mild = tt

@@ -58,6 +58,7 @@ use Rattle.wc_mirror_laws.proofs.IdLemmas.{event_apart, id_free}
 use Rattle.wc_mirror_laws.proofs.LimitLemmas.{counts_same}
 use Rattle.wc_mirror_laws.proofs.ListLemmas.{all_map}
 use Rattle.wc_mirror_laws.proofs.MapLemmas.{get_put}
+use Rattle.wc_mirror_laws.proofs.NewsLemmas.{news_put}
 use Rattle.wc_mirror_laws.proofs.NickDumps.{IsItemKept, root_kept, items_kept, nick_small, diff_small, nick_dump_size}
 use Rattle.wc_mirror_laws.proofs.NickRows.{tellable}
 use Rattle.wc_mirror_laws.proofs.NoticeLemmas.{found_key}
@@ -306,10 +307,11 @@ push_right which limit link id state part kept free follows had = by (client_on 
 pub Tells-pushes : (which : HeldPart) (limit : Option ℕ) (link : ℕ) (id : List ℕ) (state : State) → BeginsWithout 95 id → IsStateKept link state → Tells which limit link id state (push_step state)
 Tells-pushes which limit link id state free kept = record {
   following = refl;
-  kept = record { most = kept.most; world = kept.world; told = kept.world.nicks; texts = kept.texts; rows = kept.rows; first = kept.first };
+  kept = record { most = kept.most; world = kept.world; once = kept.once; shown = kept.shown; told = kept.world.nicks; texts = kept.texts; rows = kept.rows; news = kept.news; there = kept.there; first = kept.first };
   plain = λ plain. plain;
   counts = counts_same state.world;
   spelt = pushes_spelt link state (rows state.world.groups) kept kept.world.each;
+  news = news_put state (push_step state).state (push_step state).acts refl refl;
   right = λ follows plain stays part had. push_right which limit link id state part kept free follows had;
 }
 

@@ -3,19 +3,24 @@ use Rattle.std.proofs.Common.{◌≡◌, ℕ, ◌≤◌, Bool, true, List, [], �
 use Rattle.std.specs.List.{AllByRecursion}
 use Rattle.std.specs.Str.{IsUtf8}
 use Rattle.wc_text.specs.Splits.{BeginsWithout}
+use Rattle.wc_model.specs.World.{first_world}
 use Rattle.wc_options.specs.Options.{OptionsValue}
 use Rattle.wc_core.specs.Events.{Event}
 use Rattle.wc_core.specs.State.{State}
 use Rattle.wc_core.specs.Step.{step, run}
+use Rattle.wc_hotlist.proofs.MeansLaws.{none_means}
 use Rattle.wc_mirror_laws.specs.Held.{HeldPart, HeldOf, nothing, Has}
 use Rattle.wc_mirror_laws.specs.Settled.{AskedFor, asked_in, asked_on, client_on, follows_all, is_following, StaysPlain, IsLimited, LimitStays, TakesDump, IsFair}
 use Rattle.wc_mirror_laws.specs.Kept.{IsStateKept}
-use Rattle.wc_mirror_laws.specs.Mirrors.{mirror_after, beginning, IsShortLine, Mirrors, RunKeeps}
+use Rattle.wc_mirror_laws.specs.Mirrors.{mirror_after, beginning, IsShortLine, Mirrors, RunKeeps, RunMeans}
 use Rattle.wc_mirror_laws.proofs.ChangeLemmas.{mirror-append}
+use Rattle.wc_mirror_laws.proofs.HotlistNews.{news_none}
 use Rattle.wc_mirror_laws.proofs.LimitLemmas.{limited_before, limited_stays}
 use Rattle.wc_mirror_laws.proofs.ListLemmas.{all_front, all_back}
+use Rattle.wc_mirror_laws.proofs.NewsLemmas.{News, news_stays, news_then}
+use Rattle.wc_mirror_laws.proofs.ShownLemmas.{once-first, shown-first}
 use Rattle.wc_mirror_laws.proofs.WorldLemmas.{first_lists, first_kept}
-use Rattle.wc_mirror_laws.proofs.StepLemmas.{step_keeps, step_counts, followed}
+use Rattle.wc_mirror_laws.proofs.StepLemmas.{step_keeps, step_counts, step_news, followed}
 use Rattle.wc_mirror_laws.proofs.EventLemmas.{asked_one, step_mirrors, dump_mirrors}
 use Rattle.wc_eval.specs.Verdicts.{Oracle}
 
@@ -135,7 +140,7 @@ settles which limit link id state (event ∷ events) part before following dump 
 -- ---- from the start
 
 pub start_kept : (lines link : ℕ) (oracle : Oracle) (options : OptionsValue) (commands : List (List ℕ)) (connects : Bool) → lines ≤ 4096 → AllByRecursion IsUtf8 commands → IsStateKept link (beginning oracle options lines commands connects)
-start_kept lines link oracle options commands connects most texts = record { most = most; world = first_kept lines; told = first_lists; texts = texts; rows = tt; first = refl }
+start_kept lines link oracle options commands connects most texts = record { most = most; world = first_kept lines; once = once-first lines; shown = shown-first lines; told = first_lists; texts = texts; rows = tt; news = news_none (first_world lines).groups; there = tt; first = refl }
 
 kept_on : (link : ℕ) (state : State) (events : List Event) → IsStateKept link state → IsStateKept link (run state events).state
 kept_on link state [] kept = kept
@@ -143,6 +148,15 @@ kept_on link state (event ∷ events) kept = kept_on link (step state event).sta
 
 pub run_keeps : RunKeeps
 run_keeps oracle options lines commands connects events link most texts = kept_on link (beginning oracle options lines commands connects) events (start_kept lines link oracle options commands connects most texts)
+
+news_on : (link : ℕ) (state : State) (events : List Event) → IsStateKept link state → News state (run state events)
+news_on link state [] kept = news_stays state
+news_on link state (event ∷ events) kept =
+    news_then state (step state event) (λ next. run next events) (step_news link state event kept) (news_on link (step state event).state events (step_keeps link state event kept))
+
+pub run_means : RunMeans
+run_means oracle options lines commands connects events most texts =
+    news_on 0 (beginning oracle options lines commands connects) events (start_kept lines 0 oracle options commands connects most texts) [] none_means
 
 pub mirrors : (which : HeldPart) → Mirrors which
 mirrors which limit oracle options lines commands connects events link id most texts within settled limited =

@@ -1,5 +1,5 @@
 -- What follows of servers reaches the client that follows, like any other change.
-use Rattle.std.proofs.Common.{◌≡◌, ℕ, Bool, true, false, cond, List, [], ◌∷◌, ◌++◌, map, Option, Some, None, Result, Ok, Err, refl, sym, subst}
+use Rattle.std.proofs.Common.{◌≡◌, ℕ, Bool, true, false, cond, List, [], ◌∷◌, ◌++◌, map, Option, Some, None, Result, Ok, Err, inl, inr, refl, sym, subst}
 use Rattle.std.specs.List.{flat_map}
 use Rattle.std.specs.Str.{is_utf8}
 use Rattle.wc_text.specs.Lossy.{lossy_of}
@@ -12,7 +12,6 @@ use Rattle.wc_model.specs.declared.change.Change.{Change}
 use Rattle.wc_model.specs.declared.change.What.{What}
 use Rattle.wc_model.specs.declared.change.What.TheVariants as what
 use Rattle.wc_model.specs.declared.refused.ChangeRefused.{ChangeRefused}
-use Rattle.wc_model.specs.Apply.{refusal}
 use Rattle.wc_options.specs.Options.{OptionsValue}
 use Rattle.wc_ircmsg.specs.declared.message.Message.{Message}
 use Rattle.wc_ircmsg.specs.declared.message.LineRefused.{LineRefused}
@@ -29,19 +28,23 @@ use Rattle.wc_servers.specs.Seats.{ServerSeat, server_link, ended}
 use Rattle.wc_servers.specs.Texts.{is_change_text}
 use Rattle.wc_core.specs.Resolved.{change_of, null, refusal_text}
 use Rattle.wc_core.specs.State.{State, Act, Serves, Quits, Stage, Stepped}
-use Rattle.wc_core.specs.Step.{no_step, change_step_if, refusal_step}
+use Rattle.wc_core.specs.Step.{no_step, change_step_if, refused, refusal_step}
 use Rattle.wc_core.specs.Served.{messages_to}
-use Rattle.wc_core.specs.ServerSteps.{dated, say_step, told_step_if, try_step, on_step, send_step, act_step, acts_step, leave_server, server_loss_step, leave_in, loss_step_if, server_acts_step, with_server, message_step, server_line_step, stands_step, server_of, parting_step, before_step, quit_step}
-use Rattle.wc_core.specs.Changing.{put_step, then_does}
-use Rattle.wc_mirror_laws.specs.Changes.{IsTold}
+use Rattle.wc_core.specs.ServerSteps.{dated, say_step, told_step_if, try_step, on_step, send_step, act_step, acts_step, leave_server, server_loss_step, leave_in, loss_step_if, server_acts_step, with_server, message_step, server_line_step, stands_step, server_of, parting_step, before_step, quit_way, quit_step}
+use Rattle.wc_core.specs.Changing.{put_step, reach_step, then_does}
+use Rattle.wc_mirror_laws.specs.Changes.{IsAsked}
 use Rattle.wc_mirror_laws.specs.Held.{HeldPart, Has}
 use Rattle.wc_mirror_laws.specs.Kept.{IsStateKept}
+use Rattle.wc_hotlist.specs.Means.{Means}
+use Rattle.wc_hotlist.specs.Pairs.{HotPair}
 use Rattle.wc_mirror_laws.specs.Mirrors.{fold_all}
+use Rattle.wc_mirror_laws.specs.News.{AreStages}
 use Rattle.wc_mirror_laws.proofs.ChangeLemmas.{Tells, Tells-stays, Tells-then, Tells-changes, Tells-tells}
 use Rattle.wc_mirror_laws.proofs.LimitLemmas.{counts_same}
 use Rattle.wc_mirror_laws.proofs.MildCommands.{mild_first, mild_loss, mild_close}
 use Rattle.wc_mirror_laws.proofs.MildLemmas.{IsMild, IsMildAct, AreMild, mild_told, mild_dated}
 use Rattle.wc_mirror_laws.proofs.MildMessages.{mild_message}
+use Rattle.wc_mirror_laws.proofs.NewsLemmas.{News, news_put, news_then}
 use Rattle.wc_mirror_laws.proofs.TellingLemmas.{AllSpelt}
 
 -- what goes out for servers is for no client
@@ -52,7 +55,7 @@ serves_none link (out ∷ outs) acts = serves_none link outs acts
 -- options, servers and the numbers of links have no part in what always holds
 pub kept_aside : (link : ℕ) (state : State) (options : OptionsValue) (servers : List ServerSeat) (used : ℕ) → IsStateKept link state
     → IsStateKept link (record state { options = options; servers = servers; used = used })
-kept_aside link state options servers used kept = record { most = kept.most; world = kept.world; told = kept.told; texts = kept.texts; rows = kept.rows; first = kept.first }
+kept_aside link state options servers used kept = record { most = kept.most; world = kept.world; once = kept.once; shown = kept.shown; told = kept.told; texts = kept.texts; rows = kept.rows; news = kept.news; there = kept.there; first = kept.first }
 
 module _ (which : HeldPart) (limit : Option ℕ) (link : ℕ) (id : List ℕ) (free : BeginsWithout 95 id) where
   abbrev Kept : State → Type 0
@@ -62,9 +65,10 @@ module _ (which : HeldPart) (limit : Option ℕ) (link : ℕ) (id : List ℕ) (f
   Does state stepped = Tells which limit link id state stepped
 
   -- nor in what is held
-  pub Tells-aside : {way : List Stage} (state : State) (options : OptionsValue) (servers : List ServerSeat) (used : ℕ) (acts : List Act) → messages_to link acts ≡ [] → Kept state
+  Tells-beside : (way : List Stage) (state : State) (options : OptionsValue) (servers : List ServerSeat) (used : ℕ) (acts : List Act) → messages_to link acts ≡ [] → Kept state
+      → News state (record { state = record state { options = options; servers = servers; used = used }; acts = acts; way = way })
       → Does state (record { state = record state { options = options; servers = servers; used = used }; acts = acts; way = way })
-  Tells-aside {way} state options servers used acts none kept =
+  Tells-beside way state options servers used acts none kept news =
       let next : State = record state { options = options; servers = servers; used = used } in
       record {
         following = refl;
@@ -72,8 +76,13 @@ module _ (which : HeldPart) (limit : Option ℕ) (link : ℕ) (id : List ℕ) (f
         plain = λ plain. plain;
         counts = counts_same state.world;
         spelt = subst AllSpelt (sym none) tt;
+        news = news;
         right = λ follows plain stays part had. subst (λ messages. Has which (fold_all which limit id part messages) next) (sym none) had;
       }
+
+  pub Tells-aside : (state : State) (options : OptionsValue) (servers : List ServerSeat) (used : ℕ) (acts : List Act) → messages_to link acts ≡ [] → Kept state
+      → Does state (reach_step (record state { options = options; servers = servers; used = used }) acts)
+  Tells-aside state options servers used acts none kept = Tells-beside (reach_step (record state { options = options; servers = servers; used = used }) acts).way state options servers used acts none kept (news_put state (record state { options = options; servers = servers; used = used }) acts refl refl)
 
   -- what is done from another state that differs in these alone, which is come through
   pub Tells-put : (state : State) (options : OptionsValue) (servers : List ServerSeat) (used : ℕ) (others : State → Stepped) → Does (record state { options = options; servers = servers; used = used }) (others (record state { options = options; servers = servers; used = used }))
@@ -84,6 +93,7 @@ module _ (which : HeldPart) (limit : Option ℕ) (link : ℕ) (id : List ℕ) (f
     plain = λ plain. tells.plain plain;
     counts = tells.counts;
     spelt = tells.spelt;
+    news = news_then state (put_step (record state { options = options; servers = servers; used = used })) others (news_put state (record state { options = options; servers = servers; used = used }) [] refl refl) tells.news;
     right = λ follows plain stays part had. tells.right follows plain stays part had;
   }
 
@@ -97,20 +107,20 @@ module _ (which : HeldPart) (limit : Option ℕ) (link : ℕ) (id : List ℕ) (f
 
   pub Tells-tries : (tells : Bool) (state : State) (change : Change) → Kept state → IsMild change.what → Does state (try_step tells state change)
   Tells-tries tells state change kept mild = by (is_change_text change.what) refl where
-    makes : IsTold change.what → (o : Option ChangeRefused) → refusal state.world change ≡ o → Does state (change_step_if state change o)
+    makes : IsAsked change.what → (o : Option ChangeRefused) → refused state change ≡ o → Does state (change_step_if state change o)
     makes told None good = Tells-changes which limit link id state change free kept told good
     makes told (Some reason) good = Tells-stays which limit link id state kept
 
-    says : IsTold change.what → (o : Option ChangeRefused) → refusal state.world change ≡ o → Does state (told_step_if state change o)
+    says : IsAsked change.what → (o : Option ChangeRefused) → refused state change ≡ o → Does state (told_step_if state change o)
     says told None good = Tells-changes which limit link id state change free kept told good
     says told (Some reason) good = Tells-says state (refusal_text reason) kept
 
-    tried : (b : Bool) → IsTold change.what → Does state (cond b (told_step_if state change (refusal state.world change)) (change_step_if state change (refusal state.world change)))
-    tried true told = says told (refusal state.world change) refl
-    tried false told = makes told (refusal state.world change) refl
+    tried : (b : Bool) → IsAsked change.what → Does state (cond b (told_step_if state change (refused state change)) (change_step_if state change (refused state change)))
+    tried true told = says told (refused state change) refl
+    tried false told = makes told (refused state change) refl
 
     by : (b : Bool) → is_change_text change.what ≡ b
-        → Does state (cond b (cond tells (told_step_if state change (refusal state.world change)) (change_step_if state change (refusal state.world change))) (no_step state))
+        → Does state (cond b (cond tells (told_step_if state change (refused state change)) (change_step_if state change (refused state change))) (no_step state))
     by true text = tried tells (mild_told change.what text mild)
     by false text = Tells-stays which limit link id state kept
 
@@ -188,7 +198,13 @@ module _ (which : HeldPart) (limit : Option ℕ) (link : ℕ) (id : List ℕ) (f
     by true = Tells-parts state change.buffer (server_of state change.buffer) kept
     by false = Tells-stays which limit link id state kept
 
+  -- servers are told one after another, and nothing else becomes of the state
+  quits_same : (state : State) (outs : List Out) (seats : List ServerSeat) (pairs : List HotPair) → Means state.hotlist pairs → AreStages state.world pairs (quit_way state outs seats) state.world pairs
+  quits_same state outs [] pairs means = (refl, refl)
+  quits_same state outs (seat ∷ seats) pairs means = record { next = pairs; means = means; comes = inr (record { world = refl; left = inl refl }); onward = quits_same state (outs ++ quit_outs seat) seats pairs means }
+
   pub Tells-quits : (state : State) → Kept state → Does state (quit_step state)
   Tells-quits state kept =
       let outs = flat_map quit_outs state.servers in
-      Tells-aside state state.options state.servers state.used (map Serves outs ++ Quits ∷ []) (serves_none link outs (Quits ∷ [])) kept
+      Tells-beside (quit_way state [] state.servers) state state.options state.servers state.used (map Serves outs ++ Quits ∷ []) (serves_none link outs (Quits ∷ [])) kept
+      (λ pairs means. record { final = pairs; means = means; stages = quits_same state [] state.servers pairs means })

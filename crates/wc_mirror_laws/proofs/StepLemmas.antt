@@ -35,13 +35,14 @@ use Rattle.wc_mirror_laws.proofs.ClientLemmas.{following-push, first-push, first
 use Rattle.wc_mirror_laws.proofs.ChangeLemmas.{mirror-append}
 use Rattle.wc_mirror_laws.proofs.InputLemmas.{Tells-runs, Tells-start}
 use Rattle.wc_mirror_laws.proofs.LimitLemmas.{Counts, counts_same, counts_then}
+use Rattle.wc_mirror_laws.proofs.NewsLemmas.{News, news_stays, news_put, news_then}
 use Rattle.wc_mirror_laws.proofs.ServerLemmas.{Tells-line, Tells-loss, Tells-stands}
 use Rattle.wc_mirror_laws.proofs.AskedLemmas.{before_reply, asked_after, Tells-before, OnInput, input_stays}
 use Rattle.wc_mirror_laws.proofs.PushLemmas.{Tells-pushes}
 use Rattle.wc_mirror_laws.proofs.TypedLemmas.{parted_text}
 
 kept-clients : (link : ℕ) (state : State) (clients : List Client) → IsStateKept link state → is_first_alone link clients ≡ true → IsStateKept link (record state { clients = clients })
-kept-clients link state clients kept e = record { most = kept.most; world = kept.world; told = kept.told; texts = kept.texts; rows = kept.rows; first = e }
+kept-clients link state clients kept e = record { most = kept.most; world = kept.world; once = kept.once; shown = kept.shown; told = kept.told; texts = kept.texts; rows = kept.rows; news = kept.news; there = kept.there; first = e }
 
 kept-leaves : (link : ℕ) (state : State) (k : ℕ) (why : Cause) → IsStateKept link state → IsStateKept link (leave_step state k why).state
 kept-leaves link state k why kept = kept-clients link state (without client_link k state.clients) kept (first-without link k state.clients kept.first)
@@ -147,7 +148,7 @@ abbrev pub ticked : State → ℕ → State
 ticked state moment = record state { moment = moment }
 
 pub kept-ticked : (link : ℕ) (state : State) (moment : ℕ) → IsStateKept link state → IsStateKept link (ticked state moment)
-kept-ticked link state moment kept = record { most = kept.most; world = kept.world; told = kept.told; texts = kept.texts; rows = kept.rows; first = kept.first }
+kept-ticked link state moment kept = record { most = kept.most; world = kept.world; once = kept.once; shown = kept.shown; told = kept.told; texts = kept.texts; rows = kept.rows; news = kept.news; there = kept.there; first = kept.first }
 
 -- a client that came, where there are not too many
 abbrev pub arrived : State → ℕ → List ℕ → Bool → Stepped
@@ -164,8 +165,8 @@ step_keeps link state (Arrives k nonce) kept = by (nat_lt (length state.clients)
   came = new_client (record { 0 = k }) nonce
 
   by : (b : Bool) → IsStateKept link (arrived state k nonce b).state
-  by true = record { most = kept.most; world = kept.world; told = kept.told; texts = kept.texts; rows = kept.rows; first = first-push link came state.clients refl ∙ kept.first }
-  by false = record { most = kept.most; world = kept.world; told = kept.told; texts = kept.texts; rows = kept.rows; first = kept.first }
+  by true = record { most = kept.most; world = kept.world; once = kept.once; shown = kept.shown; told = kept.told; texts = kept.texts; rows = kept.rows; news = kept.news; there = kept.there; first = first-push link came state.clients refl ∙ kept.first }
+  by false = record { most = kept.most; world = kept.world; once = kept.once; shown = kept.shown; told = kept.told; texts = kept.texts; rows = kept.rows; news = kept.news; there = kept.there; first = kept.first }
 step_keeps link state (LineCame k line) kept = kept-line link state k line kept
 step_keeps link state (Stands k) kept = (Tells-stands Lines None link [] tt state k (at_key server_link k state.servers) kept).kept
 step_keeps link state (Ends k) kept = kept-lost link state k cause.Ended (at_key client_link k state.clients) kept
@@ -220,6 +221,55 @@ step_counts link state (Ends k) kept = counts_lost link state k cause.Ended (at_
 step_counts link state (Fails k) kept = counts_lost link state k cause.Failed (at_key client_link k state.clients) kept
 step_counts link state (Breaks k) kept = counts_lost link state k cause.BadSocket (at_key client_link k state.clients) kept
 step_counts link state ListenFails kept = counts_same state.world
+
+-- ---- the hotlist means the lines that count
+
+news_follows : (link : ℕ) (state : State) (k : ℕ) (o : Outcome) → OutcomeUtf8 o → IsStateKept link state → News state (outcome_step state k o)
+news_follows link state k outcome.Replied utf8 kept = news_stays state
+news_follows link state k outcome.Silent utf8 kept = news_stays state
+news_follows link state k (outcome.Input buffer text) utf8 kept = (Tells-runs Lines None link [] state buffer (lines_of_text text) tt kept (parted_text text utf8)).news
+news_follows link state k (outcome.Leave why) utf8 kept = news_put state (leave_step state k why).state (leave_step state k why).acts refl refl
+news_follows link state k outcome.NoMemory utf8 kept = news_stays state
+
+news_replies : (link : ℕ) (state : State) (line : List ℕ) (client : Client) (request : Request) → request_of client.escaped line ≡ Some request → IsStateKept link state → News state (reply_step state client request)
+news_replies link state line client request e kept =
+    let k = client_link client in
+    let answer = reply_of state.world (context_of state) client request in
+    let next = put state k answer.client in
+    news_then state (reach_step next (sends k answer.messages)) (λ next. outcome_step next k answer.outcome) (news_put state next (sends k answer.messages) refl refl)
+    (news_follows link next k answer.outcome (reply_text state client line request e) (kept-put link state k answer.client (reply_link state client line request e) kept))
+
+news_came : (link : ℕ) (state : State) (k : ℕ) (line : List ℕ) → IsStateKept link state → News state (step state (LineCame k line))
+news_came link state k line kept = came (at_key client_link k state.clients) where
+  served : (client : Client) (o : Option Request) → request_of client.escaped line ≡ o → News state (request_step state client o)
+  served client None e = news_stays state
+  served client (Some request) e =
+      let first = before_reply state client request in
+      let tells = Tells-before Lines None link [] state client request tt kept in
+      subst (λ (s : Stepped). News state s) (sym (asked_after state client request))
+      (news_then state first (λ next. reply_step next client request) tells.news (news_replies link first.state line client request e tells.kept))
+
+  came : (o : Option Client) → News state (link_line_step state k line o)
+  came None = (Tells-line Lines None link [] tt state k line (at_key server_link k state.servers) kept).news
+  came (Some client) = served client (request_of client.escaped line) refl
+
+news_lost : (link : ℕ) (state : State) (k : ℕ) (why : Cause) (o : Option Client) → IsStateKept link state → News state (link_loss_step state k why o)
+news_lost link state k why None kept = (Tells-loss Lines None link [] tt k why state (at_key server_link k state.servers) kept).news
+news_lost link state k why (Some client) kept = news_put state (leave_step state k why).state (leave_step state k why).acts refl refl
+
+pub step_news : (link : ℕ) (state : State) (event : Event) → IsStateKept link state → News state (step state event)
+step_news link state (Start moment) kept = (Tells-start Lines None link [] state moment tt kept).news
+step_news link state (Tick moment) kept = (Tells-pushes Lines None link [] (ticked state moment) tt (kept-ticked link state moment kept)).news
+step_news link state (Arrives k nonce) kept = by (nat_lt (length state.clients) (client_limit state.options)) where
+  by : (b : Bool) → News state (arrived state k nonce b)
+  by true = news_put state (arrived state k nonce true).state [] refl refl
+  by false = news_put state (arrived state k nonce false).state (Closes k cause.Surplus ∷ []) refl refl
+step_news link state (LineCame k line) kept = news_came link state k line kept
+step_news link state (Stands k) kept = (Tells-stands Lines None link [] tt state k (at_key server_link k state.servers) kept).news
+step_news link state (Ends k) kept = news_lost link state k cause.Ended (at_key client_link k state.clients) kept
+step_news link state (Fails k) kept = news_lost link state k cause.Failed (at_key client_link k state.clients) kept
+step_news link state (Breaks k) kept = news_lost link state k cause.BadSocket (at_key client_link k state.clients) kept
+step_news link state ListenFails kept = news_stays state
 
 -- ---- whether a client followed before an event
 

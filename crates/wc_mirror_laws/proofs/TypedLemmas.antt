@@ -20,14 +20,18 @@ use Rattle.wc_model.specs.declared.change.What.TheVariants as what
 use Rattle.wc_model.specs.World.{World}
 use Rattle.wc_text.specs.Splits.{onward, text_after, word_of, rest_of}
 use Rattle.wc_relaycmd.proofs.Utf8Lemmas.{cut_text, put_byte, before_text, past_text}
-use Rattle.wc_core.specs.Resolved.{Effect, Stays, Ends, Tells, Asks, SetsOption, UnsetsOption, SavesOptions, ChangesHotlist, switched, buffer_meant, of_meant, of_named, change_of, line_spec, plugin_in, effect_of}
-use Rattle.wc_core.specs.Typed.{TypedCommand, Nothing, Quits, Refused, Others, Prints, Adds, Closes, Merges, Names, Changes, Sets, Unsets, Switches, Saves, UsesHotlist, save_command, switch_command, input_command, hotlist_value, hotlist_command, news_command, set_option, set_command, unset_command, option_command, unknown_command, wrong_arguments, lines_parted, lines_of_text, print_unless_empty, print_words, tags_of, is_first, second_of, after_second, print_tagged, print_on, print_command, wrong_buffer, one_word, without_words, some_text, moves_to, close_command, starts, set_property, buffer_word, buffer_command, quit_command, command, slash_command, typed_line, Evaluates, eval_text, eval_printed, eval_command}
+use Rattle.wc_core.specs.Resolved.{Effect, Stays, Ends, Tells, Asks, SetsOption, UnsetsOption, SavesOptions, ChangesHotlist, ChangesFilters, switched, buffer_meant, of_meant, of_named, change_of, line_spec, plugin_in, effect_of}
+use Rattle.wc_core.specs.Typed.{TypedCommand, Nothing, Quits, Refused, Others, Prints, Adds, Closes, Merges, Names, Changes, Sets, Unsets, Switches, Saves, UsesHotlist, UsesFilters, save_command, switch_command, input_command, hotlist_value, hotlist_command, news_command, set_option, set_command, unset_command, option_command, unknown_command, wrong_arguments, lines_parted, lines_of_text, print_unless_empty, print_words, tags_of, is_first, second_of, after_second, print_tagged, print_on, print_command, wrong_buffer, one_word, without_words, some_text, moves_to, close_command, starts, set_property, buffer_word, buffer_command, quit_command, close_here, wrong_filter, filter_with, add_filter, one_filter, switch_filters, filter_word, filter_command, command, slash_command, typed_line, Evaluates, eval_text, eval_printed, eval_command}
 use Rattle.wc_mirror_laws.specs.Worlds.{IsBufferKept, IsWorldKept}
 use Rattle.wc_mirror_laws.proofs.ListLemmas.{all_filter}
 use Rattle.wc_mirror_laws.proofs.RowLemmas.{row_has}
 use Rattle.wc_mirror_laws.proofs.PrintLemmas.{level_fits}
-use Rattle.wc_mirror_laws.specs.Changes.{IsTold}
+use Rattle.wc_mirror_laws.specs.Changes.{IsAsked}
 use Rattle.wc_core.specs.declared.typed_eval.EvalUse.{EvalUse}
+use Rattle.wc_core.specs.declared.typed_filter.FilterChange.{FilterChange}
+use Rattle.wc_core.specs.declared.typed_filter.FilterChange.TheVariants as filtering
+use Rattle.wc_filters.specs.declared.switch.Switch.{Switch}
+use Rattle.wc_filters.specs.declared.switch.Switch.TheVariants.{Enable, Disable, Toggle}
 use Rattle.wc_core.specs.declared.typed_hotlist.HotlistUse.TheVariants as hotlist
 use Rattle.wc_core.specs.declared.typed_eval.EvalUse.TheVariants as eval
 
@@ -108,12 +112,13 @@ IsTypedText (Adds name) = IsUtf8 name
 IsTypedText (Closes buffer) = Unit {0}
 IsTypedText (Merges buffer) = Unit {0}
 IsTypedText (Names name) = IsUtf8 name
-IsTypedText (Changes w) = IsTold w
+IsTypedText (Changes w) = IsAsked w
 IsTypedText (Sets name value) = Unit {0}
 IsTypedText (Unsets name) = Unit {0}
 IsTypedText (Switches name) = Unit {0}
 IsTypedText Saves = Unit {0}
 IsTypedText (UsesHotlist usage) = Unit {0}
+IsTypedText (UsesFilters change) = Unit {0}
 IsTypedText (Evaluates usage text) = IsUtf8 text
 
 if_text : (b : Bool) (x y : TypedCommand) → (b ≡ true → IsTypedText x) → IsTypedText y → IsTypedText (cond b x y)
@@ -160,7 +165,7 @@ whole_text : (typed : List ℕ → TypedCommand) (text : List ℕ) → IsUtf8 te
 whole_text typed [] utf8 each = tt
 whole_text typed (b ∷ text) utf8 each = each (b ∷ text) utf8
 
-bare_text : (w : What) (text : List ℕ) → IsTold w → IsTypedText (without_words (Changes w) text)
+bare_text : (w : What) (text : List ℕ) → IsAsked w → IsTypedText (without_words (Changes w) text)
 bare_text w [] told = told
 bare_text w (b ∷ text) told = tt
 
@@ -282,15 +287,47 @@ eval_command_text : (text : List ℕ) → IsUtf8 text → IsTypedText (eval_comm
 eval_command_text text utf8 =
     if_text (is_first (codes "-n") text) (eval_printed (rest_of text)) (eval_text eval.Run text) (λ here. eval_printed_text (rest_of text) (rest_text text utf8)) (eval_use_text eval.Run text utf8)
 
+close_here_text : (text : List ℕ) → IsTypedText (close_here text)
+close_here_text [] = tt
+close_here_text (b ∷ text) = tt
+
+filter_with_text : (name buffers tags pattern : List ℕ) → IsTypedText (filter_with name buffers tags pattern)
+filter_with_text name buffers tags [] = tt
+filter_with_text name buffers tags (b ∷ pattern) = tt
+
+one_filter_text : (change : List ℕ → FilterChange) (text : List ℕ) → IsTypedText (one_filter change text)
+one_filter_text change [] = tt
+one_filter_text change (b ∷ text) = if_text (ltb 0 (length (rest_of (b ∷ text)))) wrong_filter (UsesFilters (change (word_of (b ∷ text)))) (λ here. tt) tt
+
+switch_filters_text : (switch : Switch) (text : List ℕ) → IsTypedText (switch_filters switch text)
+switch_filters_text switch [] = tt
+switch_filters_text switch (b ∷ text) = one_filter_text (λ name. filtering.Switch (Some name) switch) (b ∷ text)
+
+filter_word_text : (word text : List ℕ) → IsTypedText (filter_word word text)
+filter_word_text word text =
+    let toggles = cond (bytes_eq word (codes "toggle")) (switch_filters Toggle text) wrong_filter in
+    let disables = cond (bytes_eq word (codes "disable")) (switch_filters Disable text) toggles in
+    let enables = cond (bytes_eq word (codes "enable")) (switch_filters Enable text) disables in
+    let deletes = cond (bytes_eq word (codes "del")) (one_filter filtering.Delete text) enables in
+    if_text (bytes_eq word (codes "add")) (add_filter text) deletes (λ here. filter_with_text (word_of text) (second_of text) (word_of (after_second text)) (rest_of (after_second text)))
+    (if_text (bytes_eq word (codes "del")) (one_filter filtering.Delete text) enables (λ here. one_filter_text filtering.Delete text)
+    (if_text (bytes_eq word (codes "enable")) (switch_filters Enable text) disables (λ here. switch_filters_text Enable text)
+    (if_text (bytes_eq word (codes "disable")) (switch_filters Disable text) toggles (λ here. switch_filters_text Disable text)
+    (if_text (bytes_eq word (codes "toggle")) (switch_filters Toggle text) wrong_filter (λ here. switch_filters_text Toggle text) tt))))
+
 command_text : (name rest : List ℕ) → IsUtf8 rest → IsTypedText (command name rest)
 command_text name rest utf8 =
-    let evals = cond (bytes_eq name (codes "eval")) (eval_command rest) (news_command name rest) in
+    let filters = cond (bytes_eq name (codes "filter")) (filter_command rest) (news_command name rest) in
+    let evals = cond (bytes_eq name (codes "eval")) (eval_command rest) filters in
     let quits = cond (bytes_eq name (codes "quit")) (quit_command rest) evals in
-    let buffers = cond (bytes_eq name (codes "buffer")) (buffer_command rest) quits in
+    let closes = cond (bytes_eq name (codes "close")) (close_here rest) quits in
+    let buffers = cond (bytes_eq name (codes "buffer")) (buffer_command rest) closes in
     if_text (bytes_eq name (codes "print")) (print_command rest) buffers (λ here. print_text rest utf8)
-    (if_text (bytes_eq name (codes "buffer")) (buffer_command rest) quits (λ here. words_text (word_of rest) (rest_of rest) (rest_text rest utf8))
+    (if_text (bytes_eq name (codes "buffer")) (buffer_command rest) closes (λ here. words_text (word_of rest) (rest_of rest) (rest_text rest utf8))
+    (if_text (bytes_eq name (codes "close")) (close_here rest) quits (λ here. close_here_text rest)
     (if_text (bytes_eq name (codes "quit")) (quit_command rest) evals (λ here. quit_text rest)
-    (if_text (bytes_eq name (codes "eval")) (eval_command rest) (news_command name rest) (λ here. eval_command_text rest utf8) (news_text name rest))))
+    (if_text (bytes_eq name (codes "eval")) (eval_command rest) filters (λ here. eval_command_text rest utf8)
+    (if_text (bytes_eq name (codes "filter")) (filter_command rest) (news_command name rest) (λ here. filter_word_text (word_of rest) (rest_of rest)) (news_text name rest))))))
 
 slashed_text : (text : List ℕ) → IsUtf8 text → IsTypedText (slash_command text)
 slashed_text [] utf8 = command_text [] [] utf8
@@ -306,22 +343,23 @@ typed_text (b ∷ text) utf8 =
 
 -- ---- what it comes to
 
--- the change that is asked is told
+-- the change that is asked may be
 abbrev pub OnAsks : Effect → Type 0
 OnAsks Stays = Unit {0}
 OnAsks Ends = Unit {0}
 OnAsks (Tells text) = Unit {0}
-OnAsks (Asks change) = IsTold change.what
+OnAsks (Asks change) = IsAsked change.what
 OnAsks (SetsOption name value) = Unit {0}
 OnAsks (UnsetsOption name) = Unit {0}
 OnAsks SavesOptions = Unit {0}
 OnAsks (ChangesHotlist usage buffer) = Unit {0}
+OnAsks (ChangesFilters change) = Unit {0}
 
-meant_told : (f : Handle → Change) (o : Option Handle) → ((h : Handle) → IsTold (f h).what) → OnAsks (of_meant f o)
+meant_told : (f : Handle → Change) (o : Option Handle) → ((h : Handle) → IsAsked (f h).what) → OnAsks (of_meant f o)
 meant_told f None each = tt
 meant_told f (Some h) each = each h
 
-named_told : (groups : EntryGroups) (buffer : Handle) (f : Handle → Change) (name : Option (List ℕ)) → ((h : Handle) → IsTold (f h).what) → OnAsks (of_named groups buffer f name)
+named_told : (groups : EntryGroups) (buffer : Handle) (f : Handle → Change) (name : Option (List ℕ)) → ((h : Handle) → IsAsked (f h).what) → OnAsks (of_named groups buffer f name)
 named_told groups buffer f None each = each buffer
 named_told groups buffer f (Some word) each = meant_told f (buffer_meant groups word) each
 
@@ -368,4 +406,5 @@ resolved_told limit w moment buffer (Unsets name) is text = tt
 resolved_told limit w moment buffer (Switches name) is text = switched_told (buffer_meant w.groups name)
 resolved_told limit w moment buffer Saves is text = tt
 resolved_told limit w moment buffer (UsesHotlist usage) is text = tt
+resolved_told limit w moment buffer (UsesFilters change) is text = tt
 resolved_told limit w moment buffer (Evaluates usage value) is text = tt

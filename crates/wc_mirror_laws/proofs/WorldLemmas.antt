@@ -126,17 +126,17 @@ rewritten limit w h F is there same own mixed fits short =
 abbrev no_line_list : List Line
 no_line_list = []
 
-turn : (a b : ℕ) → eqb a b ≡ eqb b a
+pub turn : (a b : ℕ) → eqb a b ≡ eqb b a
 turn a b = by_bool (eqb a b) _ (λ t. t ∙ sym (eq-eqb b a (sym (eqb-true a b t)))) (λ t. t ∙ sym (let z : eqb b a ≡ false = grind (arith, nat_tests) in z))
 
 -- the lines where a buffer was given others
-put_at : (w : World) (k : ℕ) (ms : List Line) (q : ℕ) → unwrap_or (get (insert w.lines k ms) q) [] ≡ cond (eqb q k) ms (lines_at w q)
+pub put_at : (w : World) (k : ℕ) (ms : List Line) (q : ℕ) → unwrap_or (get (insert w.lines k ms) q) [] ≡ cond (eqb q k) ms (lines_at w q)
 put_at w k ms q = ap (λ o. unwrap_or o []) (get-insert nat_cmp_total w.lines k ms q ∙ ap (λ b. cond b (Some ms) (get w.lines q)) (tied q k)) ∙ by (eqb q k) where
   by : (b : Bool) → unwrap_or (cond b (Some ms) (get w.lines q)) [] ≡ cond b ms (lines_at w q)
   by true = refl
   by false = refl
 
-removed_at : (w : World) (k q : ℕ) → unwrap_or (get (remove w.lines k) q) [] ≡ cond (eqb q k) [] (lines_at w q)
+pub removed_at : (w : World) (k q : ℕ) → unwrap_or (get (remove w.lines k) q) [] ≡ cond (eqb q k) [] (lines_at w q)
 removed_at w k q = ap (λ o. unwrap_or o []) (get-remove nat_cmp_total w.lines k q ∙ ap (λ b. cond b None (get w.lines q)) (tied q k)) ∙ by (eqb q k) where
   by : (b : Bool) → unwrap_or (cond b None (get w.lines q)) [] ≡ cond b [] (lines_at w q)
   by true = refl
@@ -408,7 +408,7 @@ told_kept limit w h (Limit other) lists is told good kept = kept
 
 -- ---- the start
 
-no_lines : (limit q : ℕ) → lines_at (first_world limit) q ≡ []
+pub no_lines : (limit q : ℕ) → lines_at (first_world limit) q ≡ []
 no_lines limit q = ap (λ o. unwrap_or o []) (get-insert nat_cmp_total empty 1 [] q ∙ ap (cond (eq_by_cmp nat_cmp q 1) (Some [])) (get-empty nat_cmp q)) ∙ by (eq_by_cmp nat_cmp q 1) where
   by : (b : Bool) → unwrap_or (cond b (Some []) None) [] ≡ no_line_list
   by true = refl

@@ -36,3 +36,9 @@ IsTold (RemoveNick name) = Unit {0}
 IsTold (ChangeGroup item) = IsUtf8 item.name
 IsTold (ChangeNick item) = IsUtf8 item.name
 IsTold (Limit limit) = (1 ≤ limit) × (limit ≤ 4096)
+
+-- The changes that the core is asked for, by what is typed and by servers: it sets flags itself, as its
+-- filters have them.
+abbrev pub IsAsked : What → Type 0
+IsAsked (Flips flips) = ⊥
+IsAsked w = IsTold w

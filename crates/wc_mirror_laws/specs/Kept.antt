@@ -7,10 +7,12 @@ use Rattle.wc_hotlist.specs.declared.row.HotRow.{HotRow}
 use Rattle.wc_session.specs.declared.client.Client.{Client}
 use Rattle.wc_session.specs.declared.sync_set.BufferSet.{BufferSet}
 use Rattle.wc_session.specs.declared.sync_set.SyncSet.{SyncSet}
+use Rattle.wc_core.specs.Fitted.{AreShown}
 use Rattle.wc_core.specs.State.{State}
 use Rattle.wc_core.specs.Step.{client_link}
+use Rattle.wc_mirror_laws.specs.News.{AreNews, AreThere}
 use Rattle.wc_mirror_laws.specs.Nicks.{AreListsKept}
-use Rattle.wc_mirror_laws.specs.Worlds.{IsWorldKept}
+use Rattle.wc_mirror_laws.specs.Worlds.{IsWorldKept, AreHeldOnce}
 
 abbrev pub asks_some : SyncSet → Bool
 asks_some set = set.buffers || (set.upgrade || (set.buffer || (set.nicklist || set.trims)))
@@ -42,9 +44,14 @@ AreSmall rows = AllByRecursion (λ (row : HotRow). row.buffer.0 < 2 ^ 64) rows
 pub record IsStateKept (link : ℕ) (state : State) : Type 0 where
   pub most : state.world.limit ≤ 4096
   pub world : IsWorldKept state.world.limit state.world
+  pub once : AreHeldOnce state.world
+  -- each line has the flag that the filters give it
+  pub shown : AreShown state.filters state.world
   -- rows were told of each buffer that is there, and of no other
   pub told : AreListsKept state.world.next state.world.groups state.told
   -- the commands of the start are text
   pub texts : AllByRecursion IsUtf8 state.commands
   pub rows : AreSmall state.hotlist
+  pub news : AreNews state.world.groups state.hotlist
+  pub there : AreThere state.world.groups state.hotlist
   pub first : is_first_alone link state.clients ≡ true

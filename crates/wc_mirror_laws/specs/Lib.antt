@@ -5,6 +5,7 @@ pub mod Held
 pub mod Settled
 pub mod Worlds
 pub mod Changes
+pub mod News
 pub mod Kept
 pub mod Mirrors
 pub mod Bytes

@@ -4,6 +4,7 @@ use Rattle.std.specs.List.{AllByRecursion}
 use Rattle.std.specs.Str.{IsUtf8}
 use Rattle.wc_text.specs.declared.names.Handle.{Handle}
 use Rattle.wc_buffers.specs.Calls.{is_there}
+use Rattle.wc_filters.specs.declared.filter.Filter.{Filter}
 use Rattle.wc_model.specs.declared.change.Change.{Change}
 use Rattle.wc_model.specs.Apply.{refusal}
 use Rattle.wc_objects.specs.declared.object.WireMessage.{WireMessage}
@@ -14,13 +15,15 @@ use Rattle.wc_text.specs.Splits.{BeginsWithout}
 use Rattle.wc_options.specs.Options.{OptionsValue}
 use Rattle.wc_core.specs.Events.{Event, Line, Tick}
 use Rattle.wc_core.specs.State.{State, Act, first_state}
-use Rattle.wc_core.specs.Step.{change_step, push_at, push_step, step, run}
+use Rattle.wc_core.specs.Step.{made_step, change_step, refused, filters_step, push_at, push_step}
+use Rattle.wc_core.specs.Step.{step, run}
 use Rattle.wc_core.specs.Served.{messages_to}
 use Rattle.wc_mirror_laws.specs.Held.{HeldPart, HeldOf, nothing, fold_one, Has}
 use Rattle.wc_mirror_laws.specs.Settled.{AskedFor, asked_in, client_on, is_following, IsFair}
 use Rattle.wc_mirror_laws.specs.Settled.{TakesDump, SettledBy, IsPlain, IsLimited, LimitStays}
-use Rattle.wc_mirror_laws.specs.Changes.{IsTold}
+use Rattle.wc_mirror_laws.specs.Changes.{IsTold, IsAsked}
 use Rattle.wc_mirror_laws.specs.Kept.{IsStateKept}
+use Rattle.wc_mirror_laws.specs.News.{ComesTo}
 use Rattle.wc_eval.specs.Verdicts.{Oracle}
 
 -- what a client has of a part after one message and another
@@ -97,25 +100,40 @@ RunKeeps = (oracle : Oracle) (options : OptionsValue) (lines : ℕ)
     (events : List Event) (link : ℕ) → lines ≤ 4096 → AllByRecursion IsUtf8 commands →
     IsStateKept link (run (beginning oracle options lines commands connects) events).state
 
--- The same of an accepted change of any kind, be it of a nicklist, and whoever asked for it.
+-- The rows of the hotlist mean lines that were printed: none at the start, and in each state that is come
+-- through those of the state before, with the line that was printed and without what was taken out.
+abbrev pub RunMeans : Type 0
+RunMeans = (oracle : Oracle) (options : OptionsValue) (lines : ℕ)
+    (commands : List (List ℕ)) (connects : Bool)
+    (events : List Event) → lines ≤ 4096 → AllByRecursion IsUtf8 commands →
+    ComesTo (beginning oracle options lines commands connects).world []
+    (run (beginning oracle options lines commands connects) events)
+
+-- The same of an accepted change of any kind that the core is asked for, be it of a nicklist, and
+-- whoever asked for it.
 abbrev pub ChangeKeeps : Type 0
 ChangeKeeps = (link : ℕ) (state : State) (change : Change) → IsStateKept link state →
-    IsTold change.what → refusal state.world change ≡ None →
+    IsAsked change.what → refused state change ≡ None →
     IsStateKept link (change_step state change).state
 
--- A client that follows all events and had the part has it after the change: of a nicklist it keeps
--- the rows that were told. Where its mirror keeps a limit this is that of the world before and after, as
--- each change of another kind leaves it.
+-- The same of other filters, by which the core sets flags.
+abbrev pub FiltersKeep : Type 0
+FiltersKeep = (link : ℕ) (state : State) (filters : List Filter) → IsStateKept link state →
+    IsStateKept link (filters_step state filters).state
+
+-- A client that follows all events and had the part has it after a change that is made, with any flags
+-- of lines: of a nicklist it keeps the rows that were told. Where its mirror keeps a limit this is that
+-- of the world before and after, as each change of another kind leaves it.
 abbrev pub ChangeMirrors : HeldPart → Type 0
 ChangeMirrors which = (limit : Option ℕ) (link : ℕ) (id : List ℕ) (state : State)
     (change : Change) (part : HeldOf which)
     → IsStateKept link state → BeginsWithout 95 id → IsTold change.what →
     refusal state.world change ≡ None → IsPlain limit (client_on link state)
     → is_following limit (client_on link state) ≡ true
-    → Suits limit state.world → Suits limit (change_step state change).state.world
+    → Suits limit state.world → Suits limit (made_step state change).state.world
     → Has which part state
-    → Has which (mirror_after which limit link id part (change_step state change).acts)
-    (change_step state change).state
+    → Has which (mirror_after which limit link id part (made_step state change).acts)
+    (made_step state change).state
 
 -- The same of pushes: of each nicklist it then has the rows of now.
 abbrev pub PushKeeps : Type 0

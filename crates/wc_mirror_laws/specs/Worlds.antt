@@ -1,5 +1,5 @@
 -- What always holds of the world of the core.
-use Rattle.std.specs.Prelude.{◌≡◌, ℕ, ◌+◌, ◌<◌, ◌≤◌, ◌^◌, false, [], length, All}
+use Rattle.std.specs.Prelude.{◌≡◌, ℕ, ◌+◌, ◌<◌, ◌≤◌, ◌^◌, true, false, [], length, All}
 use Rattle.std.specs.List.{AllByRecursion}
 use Rattle.wc_text.specs.declared.names.Pair.{Pair}
 use Rattle.wc_buffers.specs.declared.row.BufferEntry.{BufferEntry}
@@ -7,6 +7,7 @@ use Rattle.wc_buffers.specs.Calls.{handle_of}
 use Rattle.wc_buffers.specs.Groups.{rows, has}
 use Rattle.wc_buffers.specs.Kept.{IsBuffer, handles}
 use Rattle.wc_buffers.specs.Table.{AreGroups}
+use Rattle.wc_lines.specs.Ring.{has_content}
 use Rattle.wc_model.specs.World.{World, lines_at, row_count, row_limit}
 use Rattle.wc_world.specs.Kept.{AreContentsApart}
 use Rattle.wc_mirror_laws.specs.Nicks.{AreListsKept}
@@ -41,3 +42,11 @@ pub record IsWorldKept (limit : ℕ) (world : World) : Type 0 where
   -- so have the nicklists of all buffers together
   pub nicks : AreListsKept world.next world.groups world.nicks
   pub counted : row_count world ≤ row_limit
+
+-- a buffer holds a line with this content
+abbrev pub Holds : World → ℕ → ℕ → Type 0
+Holds world buffer content = has_content (record { 0 = content }) (lines_at world buffer) ≡ true
+
+-- no content is held by two buffers
+abbrev pub AreHeldOnce : World → Type 0
+AreHeldOnce world = (a b content : ℕ) → Holds world a content → Holds world b content → a ≡ b

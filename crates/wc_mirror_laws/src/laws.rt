@@ -10,7 +10,7 @@ ghost use Rattle.wc_mirror_laws.specs.Example.{ThreeLinesSettleNicks};
 ghost use Rattle.wc_mirror_laws.specs.Held.{Lines, Buffers, Nicks};
 ghost use Rattle.wc_mirror_laws.specs.Mirrors.{Mirrors, StepMirrors, DumpMirrors, StepKeeps};
 ghost use Rattle.wc_mirror_laws.specs.Mirrors.{RunKeeps, ChangeKeeps, ChangeMirrors, PushKeeps};
-ghost use Rattle.wc_mirror_laws.specs.Mirrors.{PushMirrors, TickTells, ListsFit};
+ghost use Rattle.wc_mirror_laws.specs.Mirrors.{PushMirrors, TickTells, ListsFit, FiltersKeep, RunMeans};
 ghost use Rattle.wc_mirror_laws.specs.Replies.{GetsOneReply};
 
 /// A client that settled has exactly the lines of each buffer after any events, and none of a
@@ -73,12 +73,20 @@ pub fn event_keeps_nicks()
     ensures dump { DumpMirrors Nicks }
 {}
 
-/// What the core always keeps of its buffers, lines, nicklists and clients.
+/// What the core always keeps of its buffers, lines, nicklists and clients, of the flag of each line,
+/// which is the one that the filters give, and of the hotlist.
 pub fn core_keeps()
     ensures event { StepKeeps }
     ensures run { RunKeeps }
     ensures change { ChangeKeeps }
+    ensures filters { FiltersKeep }
     ensures push { PushKeeps }
+{}
+
+/// What the hotlist means: at the start no lines, and in each state that a run comes through those of
+/// the state before, with the line that was printed, and without those that were taken out.
+pub fn hotlist_means_lines()
+    ensures { RunMeans }
 {}
 
 /// A client that has a part has it still after any change that is told, of flags of lines, of a

@@ -1,4 +1,4 @@
-use Rattle.wc_mirror_laws.proofs.ChangeLemmas.{change_keeps}
+use Rattle.wc_mirror_laws.proofs.ChangeLemmas.{change_keeps, filters_keep}
 use Rattle.wc_mirror_laws.proofs.PushLemmas.{push_keeps}
 use Rattle.wc_mirror_laws.proofs.StepLemmas.{step_keeps}
 use Rattle.wc_mirror_laws.proofs.RunLemmas.{run_keeps}
@@ -11,7 +11,10 @@ pub returns-clause-run : goal.returns-clause-run
 returns-clause-run c = λ oracle options lines commands connects events link most texts. run_keeps oracle options lines commands connects events link most texts
 
 pub returns-clause-change : goal.returns-clause-change
-returns-clause-change c = λ link state change kept told good. change_keeps link state change kept told good
+returns-clause-change c = λ link state change kept asked good. change_keeps link state change kept asked good
+
+pub returns-clause-filters : goal.returns-clause-filters
+returns-clause-filters c = λ link state filters kept. filters_keep link state filters kept
 
 pub returns-clause-push : goal.returns-clause-push
 returns-clause-push c = λ link state kept. push_keeps link state kept
