@@ -1,4 +1,4 @@
--- What the clients that settled hold at the end of a run.
+-- What the clients that settled hold at the end of a run, and which flags lines have then.
 use Rattle.std.proofs.Common.{◌≡◌, ℕ, ◌-◌, ◌≤◌, Bool, true, false, cond, eqb, nat_le, List, [], ◌∷◌, ◌++◌, length, map, not, take, slice_index, Option, Some, None, IfSome, IfOk, Result, Ok, Err, refl, sym, subst, arith}
 use Rattle.std.specs.List.{AllByRecursion, flat_map}
 use Rattle.std.specs.Str.{IsUtf8}
@@ -12,6 +12,7 @@ use Rattle.wc_outside.specs.declared.happening.Happening.{Happening}
 use Rattle.wc_outside.specs.declared.happening.Happening.TheVariants.{Woke, Accepted, Read, Ended, Failed, Connected, Refused, ListenFailed}
 use Rattle.wc_session.specs.declared.client.Client.{Client}
 use Rattle.wc_core.specs.Events.{Event, Tick, Line}
+use Rattle.wc_core.specs.Fitted.{AreShown}
 use Rattle.wc_core.specs.State.{State}
 use Rattle.wc_core.specs.Step.{client_link, run}
 use Rattle.wc_board.specs.Connections.{unsent_on}
@@ -21,6 +22,7 @@ use Rattle.wc_mirror_laws.specs.Bytes.{ShowsPart}
 use Rattle.wc_mirror_laws.specs.Mirrors.{beginning, IsShortLine}
 use Rattle.wc_mirror_laws.specs.Settled.{SettledBy, IsLimited, is_following}
 use Rattle.wc_mirror_laws.proofs.BytesLemmas.{part_shows}
+use Rattle.wc_mirror_laws.proofs.RunLemmas.{run_keeps}
 use Rattle.wc_options.specs.Config.{config_of}
 use Rattle.wc_options.specs.Options.{OptionsValue}
 use Rattle.wc_core.specs.Limits.{most_lines}
@@ -28,7 +30,7 @@ use Rattle.wc_turns.specs.declared.headless.Headless.{Headless}
 use Rattle.wc_loop.proofs.OptionsLemmas.{limit_most}
 use Rattle.wc_turns.specs.Events.{socket_on, tail_as, text_of_read, came_events, happening_events, end_events, events_of, events_from, wake_events, loss_of, refused_since, line_events, is_tick, clock}
 use Rattle.wc_turns.specs.Heard.{Heard, Happened, Unframed, NotPut, SocketEnd, GoesOn, Closes, Broken, happenings}
-use Rattle.wc_loop.specs.Headline.{HandsOut, ClientsHoldDumps, state_before}
+use Rattle.wc_loop.specs.Headline.{HandsOut, ClientsHoldDumps, LinesAreShown, state_before}
 use Rattle.wc_loop.specs.Words.{Opening}
 use Rattle.wc_turns.specs.Lines.{ended_lines, without_cr, line_limit}
 use Rattle.wc_core.specs.State.{beside}
@@ -134,3 +136,23 @@ ClientsHoldDumps-known opening texts (Some kept) seen last = go (config_of kept)
 pub ClientsHoldDumps-last : (opening : Opening) → AllByRecursion IsUtf8 opening.commands → (contents : Option (List ℕ)) (seen : Seen) (last : Option Headless) → IfSome last (ClientsHoldDumps opening contents seen)
 ClientsHoldDumps-last opening texts contents seen None = tt
 ClientsHoldDumps-last opening texts contents seen (Some last) = ClientsHoldDumps-known opening texts contents seen last
+
+-- ---- lines are shown as the filters have them
+
+-- the core keeps this beside what it keeps of a link, of any one
+shown-by : (oracle : Oracle) (commands : List (List ℕ)) (connects : Bool) (texts : AllByRecursion IsUtf8 commands) (options : OptionsValue) (lines : ℕ) (seen : Seen) (last : Headless) → lines ≤ 4096 → HandsOut (beginning oracle options lines commands connects) seen last → AreShown last.core.filters last.core.world
+shown-by oracle commands connects texts options lines seen last most handed =
+    let kept = run_keeps oracle options lines commands connects handed.events 0 most texts in
+    subst (λ (state : State). AreShown state.filters state.world) handed.means.same kept.shown
+
+LinesAreShown-known : (opening : Opening) → AllByRecursion IsUtf8 opening.commands → (contents : Option (List ℕ)) (seen : Seen) (last : Headless) → LinesAreShown opening contents seen last
+LinesAreShown-known opening texts None seen last = tt
+LinesAreShown-known opening texts (Some kept) seen last = go (config_of kept)
+  where
+    go : (r : Result OptionsValue ℕ) → IfOk r (λ options. (oracle : Oracle) → HandsOut (state_before oracle options opening) seen last → AreShown last.core.filters last.core.world)
+    go (Ok options) = λ oracle handed. shown-by oracle opening.commands (not opening.holds) texts options (most_lines options) seen last (limit_most options) handed
+    go (Err n) = tt
+
+pub LinesAreShown-last : (opening : Opening) → AllByRecursion IsUtf8 opening.commands → (contents : Option (List ℕ)) (seen : Seen) (last : Option Headless) → IfSome last (LinesAreShown opening contents seen)
+LinesAreShown-last opening texts contents seen None = tt
+LinesAreShown-last opening texts contents seen (Some last) = LinesAreShown-known opening texts contents seen last

@@ -12,6 +12,7 @@ use Rattle.wc_turns.specs.Hands.{IsFrontOf}
 use Rattle.wc_turns.specs.Links.{link_number}
 use Rattle.wc_turns.specs.Run.{up_to_quit}
 use Rattle.wc_core.specs.Events.{Event}
+use Rattle.wc_core.specs.Fitted.{AreShown}
 use Rattle.wc_core.specs.State.{State, first_state, has_end}
 use Rattle.wc_core.specs.Step.{client_link, run}
 use Rattle.wc_core.specs.Served.{Means, state_of, sent_to, outs_of}
@@ -112,6 +113,13 @@ ClientsHoldDumps opening contents seen last =
     → ShowsPart which limit id (seen.sent link ++ unsent_on link last.core.connections)
     (state_of last.core
     (beside (run (state_before oracle options opening) handed.events).state))))
+
+-- There each line of each buffer has the flag that the filters of the end give it.
+abbrev pub LinesAreShown : Opening → Option (List ℕ) → Seen → Headless → Type 0
+LinesAreShown opening contents seen last =
+    IfSome contents (λ configuration. IfOk (config_of configuration) (λ options.
+    (oracle : Oracle) → HandsOut (state_before oracle options opening) seen last
+    → AreShown last.core.filters last.core.world))
 
 -- What the core came to, whatever memory was refused: the events that were reached were taken in
 -- order, each done whole or cut short, and nothing else changed its state but losses that no event

@@ -7,7 +7,7 @@ ghost use Rattle.wc_loop.specs.Demo.{PrintsDemo, IsDemoEnd, IfDemo};
 ghost use Rattle.wc_loop.specs.Endings.{LastOf, StatusOf, WaitsAtMost, Prints, HasCause, RunsBy};
 ghost use Rattle.wc_loop.specs.Endings.{asks_turns, IsAsked, status_of, ending_text, KeepsText};
 ghost use Rattle.wc_loop.specs.Endings.{HoldsEarlier, HoldsSaved, ClosesLast};
-ghost use Rattle.wc_loop.specs.Headline.{Headline, TakesEach, ClientsHoldDumps};
+ghost use Rattle.wc_loop.specs.Headline.{Headline, TakesEach, ClientsHoldDumps, LinesAreShown};
 ghost use Rattle.wc_turns.specs.Parties.{IsCalm};
 ghost use Rattle.wc_turns.specs.Sources.{AllServed, AllSent};
 ghost use Rattle.wc_loop.specs.Words.{opening_of, wish_of};
@@ -160,6 +160,10 @@ pub fn run_program<S: Sockets, K: Keeper, O: Sink>(
         (opening_of (map string_bytes words.now.items)) (K.contents keeper.old)
         (S.seen sockets.new)) }
     ensures mirrored { IfSome result.last (ClientsHoldDumps
+        (opening_of (map string_bytes words.now.items)) (K.contents keeper.old)
+        (S.seen sockets.new)) }
+    // Each line of each buffer is shown or hidden as the filters have it.
+    ensures shown { IfSome result.last (LinesAreShown
         (opening_of (map string_bytes words.now.items)) (K.contents keeper.old)
         (S.seen sockets.new)) }
     ensures status { result.status ≢ 7 → StatusOf (wish_of (map string_bytes words.now.items))

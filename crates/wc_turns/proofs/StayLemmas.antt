@@ -12,7 +12,6 @@ use Rattle.wc_model.specs.declared.change.Change.{Change}
 use Rattle.wc_model.specs.declared.change.What.{What}
 use Rattle.wc_model.specs.declared.change.What.TheVariants as what
 use Rattle.wc_model.specs.declared.refused.ChangeRefused.{ChangeRefused}
-use Rattle.wc_model.specs.Apply.{refusal}
 use Rattle.wc_ircmsg.specs.declared.message.Message.{Message}
 use Rattle.wc_ircmsg.specs.declared.message.LineRefused.{LineRefused}
 use Rattle.wc_ircmsg.specs.Answers.{reading_of}
@@ -29,7 +28,7 @@ use Rattle.wc_servers.proofs.OutLemmas.{part_of-append}
 use Rattle.wc_core.specs.Resolved.{change_of, null, refusal_text, told_refusal}
 use Rattle.wc_core.specs.State.{State, Act, Stepped}
 use Rattle.wc_core.specs.Served.{outs_of}
-use Rattle.wc_core.specs.Changing.{client_link, no_step, then_does, change_step, change_step_if, refusal_step}
+use Rattle.wc_core.specs.Changing.{client_link, no_step, then_does, change_step, change_step_if, refused, refusal_step}
 use Rattle.wc_core.specs.ServerSteps.{dated, say_step, told_step_if, try_step, on_step, send_step, act_step, acts_step, leave_server, server_loss_step, leave_in, loss_step_if, server_acts_step, with_server, message_step, server_line_step, stands_step}
 use Rattle.wc_core.specs.Changing.{put_step}
 use Rattle.wc_core.proofs.DidLemmas.{outs_of-append}
@@ -96,7 +95,7 @@ stays-changed-if link state change None = stays-changed link state change
 stays-changed-if link state change (Some reason) = stays-still link state
 
 stays-refused : (link : ℕ) (state : State) (text : List ℕ) → Stays link state (refusal_step state text)
-stays-refused link state text = stays-changed-if link state (told_refusal state.moment text) (refusal state.world (told_refusal state.moment text))
+stays-refused link state text = stays-changed-if link state (told_refusal state.moment text) (refused state (told_refusal state.moment text))
 
 stays-said : (link : ℕ) (state : State) (text : List ℕ) → Stays link state (say_step state text)
 stays-said link state text = stays-if link state (is_utf8 text) (refusal_step state text) (no_step state) (stays-refused link state text) (stays-still link state)
@@ -107,10 +106,10 @@ stays-told-if link state change (Some reason) = stays-said link state (refusal_t
 
 stays-tried : (link : ℕ) (tells : Bool) (state : State) (change : Change) → Stays link state (try_step tells state change)
 stays-tried link tells state change =
-    let told = told_step_if state change (refusal state.world change) in
-    let made = change_step_if state change (refusal state.world change) in
+    let told = told_step_if state change (refused state change) in
+    let made = change_step_if state change (refused state change) in
     stays-if link state (is_change_text change.what) (cond tells told made) (no_step state)
-    (stays-if link state tells told made (stays-told-if link state change (refusal state.world change)) (stays-changed-if link state change (refusal state.world change))) (stays-still link state)
+    (stays-if link state tells told made (stays-told-if link state change (refused state change)) (stays-changed-if link state change (refused state change))) (stays-still link state)
 
 -- ---- acts
 
@@ -164,7 +163,7 @@ stays-with link state server acts =
     }
 
 stays-message : (link : ℕ) (state : State) (server : ServerState) (r : Result Message LineRefused) → Stays link state (message_step state link server r)
-stays-message link state server (Err refused) = stays-still link state
+stays-message link state server (Err reason) = stays-still link state
 stays-message link state server (Ok m) = stays-with link state (after_server server m) (acts_of_server state.world.groups server m)
 
 -- ---- the events of a link

@@ -3,7 +3,7 @@ use Rattle.std.specs.Io.KnownBytes.{append_known}
 use Rattle.wc_loop.specs.Endings.{number_of, counts_in, status_of}
 use Rattle.wc_loop.proofs.OutcomeLemmas.{IsNumber-runs, StatusOf-runs, Common-runs, Waits-runs, Demo-runs, IfSome-headline, IfSome-agrees, IfSome-calm, IfSome-causes, IfSome-takes}
 use Rattle.wc_loop.proofs.EndingLemmas.{held-saved}
-use Rattle.wc_loop.proofs.MirrorLemmas.{ClientsHoldDumps-last}
+use Rattle.wc_loop.proofs.MirrorLemmas.{ClientsHoldDumps-last, LinesAreShown-last}
 use Rattle.wc_loop.proofs.WordsLemmas.{commands_texts}
 use Rattle.wc_loop.proofs.program.run_program.Goals as goal
 
@@ -23,6 +23,9 @@ returns-clause-contained g c =
 
 pub returns-clause-mirrored : goal.returns-clause-mirrored
 returns-clause-mirrored g c = ClientsHoldDumps-last _ (commands_texts c.args.words.now.items) _ _ _
+
+pub returns-clause-shown : goal.returns-clause-shown
+returns-clause-shown g c = LinesAreShown-last _ (commands_texts c.args.words.now.items) _ _ _
 
 pub returns-clause-waits : goal.returns-clause-waits
 returns-clause-waits g c =
