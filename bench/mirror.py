@@ -2,8 +2,9 @@
 """Checks and measures copies of a running program's buffers, lines and nicklists, over real sockets.
 
 Two clients log in, ask for all events and take the three dumps. Then each types commands at random, from a seed: buffers
-that are added, merged, moved, hidden, renamed and closed, variables, titles, lines. Each client folds the events into
-its copy, and after every round the copies are compared with those of fresh dumps. It ends with 1 where they differ.
+that are added, merged, moved, hidden, renamed and closed, variables, titles, lines, filters. Each client folds the
+events into its copy, and after every round the copies are compared with those of fresh dumps. It ends with 1 where they
+differ.
 One client keeps the program's limit of lines, the other asks for trims and is told which lines go. With --limits both
 ask for trims, and the limit of lines is changed too.
 With --lines it prints so many lines into so many buffers instead, and measures the dump of all lines. The program has
@@ -157,7 +158,16 @@ class Client:
             self.groups.pop(group)
         return buffer
 
+    def fold_flags(self, items):
+        """Sets the flags of lines, each by its pointer; one that is not held is passed over."""
+        for (line,), values in items:
+            for handle, held in self.lines.get(values["buffer"], []):
+                if handle == line:
+                    held["displayed"] = values["displayed"]
+
     def fold(self, message):
+        if message.id == "_buffer_line_data_changed":
+            return self.fold_flags(message.items)
         (pointers, values), event = message.items[0], message.id.removeprefix("_buffer_")
         handle = pointers[0]
         if event == "line_added":
@@ -195,6 +205,20 @@ class Client:
                 self.groups[group][place]["hidden"] = int(event == "hidden")
 
 
+def filter_command(dice, names):
+    """A change of filters at random, of few names, so that most are of filters that are there."""
+    name, word, other = "f%d" % dice.randint(0, 3), dice.choice(names), dice.choice(names)
+    buffers = dice.choice(["*", "core." + word, "core.n1*", "!core." + word, "*,!core.%s,!*weechat" % word])
+    tags = dice.choice(["*", "a", "!a", word, "a+!%s,%s" % (word, other)])
+    pattern = dice.choice(["*", "text", "!text", word, "^%s$\\t" % word, "!%s\\t%s" % (word, other), "("])
+    return dice.choice(
+        ["/filter add %s %s %s %s" % (name, buffers, tags, pattern)] * 3
+        + ["/filter del " + name] * 2
+        + ["/filter " + word for word in ("enable", "disable", "toggle")]
+        + ["/filter %s %s" % (word, name) for word in ("enable", "disable", "toggle")]
+    )
+
+
 def command(dice, client, names, limits):
     """A command at random, and the buffer into which it is typed."""
     buffers = [b["full_name"] for g in client.groups for b in g]
@@ -218,6 +242,10 @@ def command(dice, client, names, limits):
             "/buffer set localvar_del_%s" % dice.choice("abc"),
             "/print %s\t%s" % (word, word),
             "/print -buffer %s -tags a,%s text" % (there, word),
+            "/print -tags no_filter,%s text" % word,
+            filter_command(dice, names),
+            filter_command(dice, names),
+            filter_command(dice, names),
             "no command",
         ]
         + ["/set weechat.history.max_buffer_lines_number %d" % dice.choice([1, 2, 3, 5, 8, 4096])] * limits
