@@ -43,8 +43,8 @@ use Rattle.wc_mirror_laws.proofs.HotlistNews.{news_change, rows_there}
 use Rattle.wc_mirror_laws.specs.Held.{HeldPart, Lines, HeldOf, Has}
 use Rattle.wc_view.specs.Views.{heard_parts, Suits}
 use Rattle.wc_mirror_laws.specs.Settled.{client_on, is_following, IsPlain, LimitStays}
-use Rattle.wc_mirror_laws.specs.Kept.{IsStateKept}
-use Rattle.wc_mirror_laws.specs.Mirrors.{fold_all, mirror_after, ChangeKeeps, ChangeMirrors, FiltersKeep}
+use Rattle.wc_mirror_laws.specs.Kept.{IsKeptWith, IsStateKept, IsKeptButFlags}
+use Rattle.wc_mirror_laws.specs.Mirrors.{fold_all, mirror_after, ChangeKeeps, MadeKeeps, ChangeMirrors, FiltersKeep}
 use Rattle.wc_mirror_laws.proofs.ClientLemmas.{following-heard, plain-heard, first-heard, sends_each, told-first, told_nothing, IsOwn, told_heard, messages-sends}
 use Rattle.wc_mirror_laws.proofs.IdLemmas.{id_free}
 use Rattle.wc_mirror_laws.proofs.HeldLemmas.{fold_all-append, parts_messages, change_right}
@@ -159,6 +159,30 @@ change_has which limit link id state change part kept free told good follows pla
     subst (λ part. Has which part new) (sym (ap (fold_all which limit id part) event))
     (change_right which limit id part state change kept.most kept.world kept.told told (id_free id free) good before then had)
 
+-- A change that is made as it is keeps what always holds, where this is said of the flags afterwards.
+made_kept : (Flags Later : Type 0) (link : ℕ) (state : State) (filters : List Filter) (change : Change) → IsKeptWith Flags link state → IsTold change.what → refusal state.world change ≡ None
+    → Later → IsKeptWith Later link (made_step (with_filters state filters) change).state
+made_kept Flags Later link state filters change kept told good later =
+    let w = state.world in
+    let v = after w change in
+    let n = notice w change in
+    let is = after_kept w.limit w change.buffer change.what kept.world told good in
+    let tells = telling w.limit w change.buffer change.what kept.most kept.world told good in
+    let most = limit_most w.limit change.what told kept.most in
+    let news = news_change w.limit w change.buffer change.what state.told state.hotlist kept.world told good kept.told kept.news in
+    record {
+      most = subst (λ n. n ≤ 4096) (sym is.same) most;
+      texts = kept.texts;
+      rows = after_small w state.hotlist change.buffer change.what tells.buffer kept.rows;
+      news = news;
+      there = rows_there v.groups (hotlist_after state.hotlist change.buffer change.what) news;
+      world = subst (λ n. IsWorldKept n v) (sym is.same) is;
+      once = once-change w.limit w change kept.world kept.once;
+      shown = later;
+      told = told_kept w.limit w change.buffer change.what state.told kept.world told good kept.told;
+      first = first-heard n.kind n.buffer.0 link state.clients kept.first;
+    }
+
 -- A change that is made as it is, by which each line has the flag that these filters give. What is sent is that of the
 -- filters before.
 Tells-made : (which : HeldPart) (limit : Option ℕ) (link : ℕ) (id : List ℕ) (state : State) (filters : List Filter) (change : Change) → BeginsWithout 95 id → IsStateKept link state → IsTold change.what → refusal state.world change ≡ None
@@ -169,24 +193,11 @@ Tells-made which limit link id state filters change free kept told good shown =
     let n = notice w change in
     let is = after_kept w.limit w change.buffer change.what kept.world told good in
     let tells = telling w.limit w change.buffer change.what kept.most kept.world told good in
-    let most = limit_most w.limit change.what told kept.most in
     let counts = counts_after w change.buffer change.what in
     let next = (made_step (with_filters state filters) change).state in
-    let news = news_change w.limit w change.buffer change.what state.told state.hotlist kept.world told good kept.told kept.news in
     record {
       following = following-heard limit n.kind n.buffer.0 link state.clients;
-      kept = record {
-        most = subst (λ n. n ≤ 4096) (sym is.same) most;
-        texts = kept.texts;
-        rows = after_small w state.hotlist change.buffer change.what tells.buffer kept.rows;
-        news = news;
-        there = rows_there v.groups (hotlist_after state.hotlist change.buffer change.what) news;
-        world = subst (λ n. IsWorldKept n v) (sym is.same) is;
-        once = once-change w.limit w change kept.world kept.once;
-        shown = shown;
-        told = told_kept w.limit w change.buffer change.what state.told kept.world told good kept.told;
-        first = first-heard n.kind n.buffer.0 link state.clients kept.first;
-      };
+      kept = made_kept (AreShown state.filters w) (AreShown filters v) link state filters change kept told good shown;
       plain = plain-heard limit n.kind n.buffer.0 link state.clients;
       counts = counts;
       spelt = clients_spelt link (notice_told v n) state.clients
@@ -225,6 +236,9 @@ Tells-filters which limit link id state filters free kept = Tells-flips which li
 
 pub change_keeps : ChangeKeeps
 change_keeps link state change kept asked good = (Tells-changes Lines None link [] state change tt kept asked good).kept
+
+pub made_keeps : MadeKeeps
+made_keeps link state change kept told good = made_kept (Unit {0}) (Unit {0}) link state state.filters change kept told good tt
 
 pub filters_keep : FiltersKeep
 filters_keep link state filters kept = (Tells-filters Lines None link [] state filters tt kept).kept

@@ -41,12 +41,12 @@ is_first_alone link (client ∷ clients) = if client_link client == link then is
 abbrev pub AreSmall : List HotRow → Type 0
 AreSmall rows = AllByRecursion (λ (row : HotRow). row.buffer.0 < 2 ^ 64) rows
 
-pub record IsStateKept (link : ℕ) (state : State) : Type 0 where
+-- What always holds of the core, where this is said of the flags of its lines.
+pub record IsKeptWith (Flags : Type 0) (link : ℕ) (state : State) : Type 0 where
   pub most : state.world.limit ≤ 4096
   pub world : IsWorldKept state.world.limit state.world
   pub once : AreHeldOnce state.world
-  -- each line has the flag that the filters give it
-  pub shown : AreShown state.filters state.world
+  pub shown : Flags
   -- rows were told of each buffer that is there, and of no other
   pub told : AreListsKept state.world.next state.world.groups state.told
   -- the commands of the start are text
@@ -55,3 +55,11 @@ pub record IsStateKept (link : ℕ) (state : State) : Type 0 where
   pub news : AreNews state.world.groups state.hotlist
   pub there : AreThere state.world.groups state.hotlist
   pub first : is_first_alone link state.clients ≡ true
+
+-- Each line has the flag that the filters give it.
+abbrev pub IsStateKept : ℕ → State → Type 0
+IsStateKept link state = IsKeptWith (AreShown state.filters state.world) link state
+
+-- Lines may have any flags, as where flags are set that no filter asks for.
+abbrev pub IsKeptButFlags : ℕ → State → Type 0
+IsKeptButFlags link state = IsKeptWith (Unit {0}) link state

@@ -22,7 +22,7 @@ use Rattle.wc_mirror_laws.specs.Held.{HeldPart, HeldOf, nothing, fold_one, Has}
 use Rattle.wc_mirror_laws.specs.Settled.{AskedFor, asked_in, client_on, is_following, IsFair}
 use Rattle.wc_mirror_laws.specs.Settled.{TakesDump, SettledBy, IsPlain, IsLimited, LimitStays}
 use Rattle.wc_mirror_laws.specs.Changes.{IsTold, IsAsked}
-use Rattle.wc_mirror_laws.specs.Kept.{IsStateKept}
+use Rattle.wc_mirror_laws.specs.Kept.{IsStateKept, IsKeptButFlags}
 use Rattle.wc_mirror_laws.specs.News.{ComesTo}
 use Rattle.wc_eval.specs.Verdicts.{Oracle}
 
@@ -115,6 +115,12 @@ abbrev pub ChangeKeeps : Type 0
 ChangeKeeps = (link : ℕ) (state : State) (change : Change) → IsStateKept link state →
     IsAsked change.what → refused state change ≡ None →
     IsStateKept link (change_step state change).state
+
+-- All of it but the flags of lines holds after any change that is made as it is, whatever flags it sets.
+abbrev pub MadeKeeps : Type 0
+MadeKeeps = (link : ℕ) (state : State) (change : Change) → IsKeptButFlags link state →
+    IsTold change.what → refusal state.world change ≡ None →
+    IsKeptButFlags link (made_step state change).state
 
 -- The same of other filters, by which the core sets flags.
 abbrev pub FiltersKeep : Type 0

@@ -9,8 +9,8 @@ ghost use Rattle.wc_mirror_laws.specs.Example.{ThreeLinesSettle, ThreeLinesSettl
 ghost use Rattle.wc_mirror_laws.specs.Example.{ThreeLinesSettleNicks};
 ghost use Rattle.wc_mirror_laws.specs.Held.{Lines, Buffers, Nicks};
 ghost use Rattle.wc_mirror_laws.specs.Mirrors.{Mirrors, StepMirrors, DumpMirrors, StepKeeps};
-ghost use Rattle.wc_mirror_laws.specs.Mirrors.{RunKeeps, ChangeKeeps, ChangeMirrors, PushKeeps};
-ghost use Rattle.wc_mirror_laws.specs.Mirrors.{PushMirrors, TickTells, ListsFit, FiltersKeep, RunMeans};
+ghost use Rattle.wc_mirror_laws.specs.Mirrors.{RunKeeps, ChangeKeeps, MadeKeeps, ChangeMirrors};
+ghost use Rattle.wc_mirror_laws.specs.Mirrors.{PushKeeps, PushMirrors, TickTells, ListsFit, FiltersKeep, RunMeans};
 ghost use Rattle.wc_mirror_laws.specs.Replies.{GetsOneReply};
 
 /// A client that settled has exactly the lines of each buffer after any events, and none of a
@@ -79,6 +79,7 @@ pub fn core_keeps()
     ensures event { StepKeeps }
     ensures run { RunKeeps }
     ensures change { ChangeKeeps }
+    ensures made { MadeKeeps }
     ensures filters { FiltersKeep }
     ensures push { PushKeeps }
 {}

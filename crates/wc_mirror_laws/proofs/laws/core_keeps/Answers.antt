@@ -1,4 +1,4 @@
-use Rattle.wc_mirror_laws.proofs.ChangeLemmas.{change_keeps, filters_keep}
+use Rattle.wc_mirror_laws.proofs.ChangeLemmas.{change_keeps, made_keeps, filters_keep}
 use Rattle.wc_mirror_laws.proofs.PushLemmas.{push_keeps}
 use Rattle.wc_mirror_laws.proofs.StepLemmas.{step_keeps}
 use Rattle.wc_mirror_laws.proofs.RunLemmas.{run_keeps}
@@ -12,6 +12,9 @@ returns-clause-run c = λ oracle options lines commands connects events link mos
 
 pub returns-clause-change : goal.returns-clause-change
 returns-clause-change c = λ link state change kept asked good. change_keeps link state change kept asked good
+
+pub returns-clause-made : goal.returns-clause-made
+returns-clause-made c = λ link state change kept told good. made_keeps link state change kept told good
 
 pub returns-clause-filters : goal.returns-clause-filters
 returns-clause-filters c = λ link state filters kept. filters_keep link state filters kept
