@@ -160,28 +160,31 @@ global_ranges = (
       (
         ascii_text (codes "1 to 64") refl,
         (
-          ascii_text (codes "1 to 65535, read at the start") refl,
+          ascii_text (codes "0 to 4096") refl,
           (
-            ascii_text (codes "text, not empty") refl,
+            ascii_text (codes "1 to 65535, read at the start") refl,
             (
               ascii_text (codes "text, not empty") refl,
               (
-                ascii_text (codes "one word") refl,
+                ascii_text (codes "text, not empty") refl,
                 (
-                  ascii_text (codes "text") refl,
+                  ascii_text (codes "one word") refl,
                   (
                     ascii_text (codes "text") refl,
                     (
-                      ascii_text (codes "on, off") refl,
+                      ascii_text (codes "text") refl,
                       (
                         ascii_text (codes "on, off") refl,
                         (
-                          ascii_text (codes "text") refl,
+                          ascii_text (codes "on, off") refl,
                           (
                             ascii_text (codes "text") refl,
                             (
-                              ascii_text (codes "continue, disconnect") refl,
-                              (ascii_text (codes "words") refl, tt),
+                              ascii_text (codes "text") refl,
+                              (
+                                ascii_text (codes "continue, disconnect") refl,
+                                (ascii_text (codes "words") refl, tt),
+                              ),
                             ),
                           ),
                         ),

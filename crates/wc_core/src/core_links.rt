@@ -65,6 +65,11 @@ impl Core {
         }
     }
 
+    /// How many bytes may wait to be sent to the client of a link, where that is bounded.
+    pub fn most_unsent(&self, link: LinkId) -> Option<usize> {
+        self.board.session(link)?.most_unsent()
+    }
+
     /// Takes the first unsent bytes of a client, or else of a server, away.
     pub fn gone(&mut self, link: LinkId, count: usize)
         requires { IfSome (unsent_in_core link.0 self.old) (λ unsent. count ≤ length unsent) }

@@ -68,7 +68,7 @@ globals-AreNamed =
                                 (
                                   name _ 14 (λ rest. refl) refl refl refl refl,
                                   refl,
-                                  (name _ 15 (λ rest. refl) refl refl refl refl, refl, tt),
+                                  (name _ 15 (λ rest. refl) refl refl refl refl, refl, (name _ 16 (λ rest. refl) refl refl refl refl, refl, tt)),
                                 ),
                               ),
                             ),

@@ -40,6 +40,7 @@ globals =
     ∷ option (codes "relay.network.password_hash_algo") Text (codes "*")
     (codes "masks joined by commas")
     ∷ option (codes "relay.network.max_clients") (Number 1 64) (codes "5") (codes "1 to 64")
+    ∷ option (codes "relay.network.max_unsent") (Number 0 4096) (codes "0") (codes "0 to 4096")
     ∷ option (codes "relay.port.weechat") (Number 1 65535) (codes "9000")
     (codes "1 to 65535, read at the start")
     ∷ option (codes "irc.server_default.nicks") Filled (codes "weechat") (codes "text, not empty")

@@ -44,10 +44,9 @@ pub(crate) fn own_at_first(alloc: Global, place: usize) -> Option<Text>
 /// have none of their own.
 const STANDS_FOR: [Option<usize>; 12] = [
     None,
-    Some(5),
-    Some(7),
     Some(6),
     Some(8),
+    Some(7),
     Some(9),
     Some(10),
     Some(11),
@@ -55,6 +54,7 @@ const STANDS_FOR: [Option<usize>; 12] = [
     Some(13),
     Some(14),
     Some(15),
+    Some(16),
 ];
 
 /// The option of the program that an option of a server stands for, by their places.

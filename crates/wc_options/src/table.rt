@@ -23,16 +23,21 @@ const CLIENTS: Kind = Kind::Number {
     highest: 64,
 };
 
+const MEGABYTES: Kind = Kind::Number {
+    lowest: 0,
+    highest: 4096,
+};
+
 const PORT: Kind = Kind::Number {
     lowest: 1,
     highest: 65535,
 };
 
 /// How many options the program has.
-pub(crate) const GLOBAL_COUNT: usize = 16;
+pub(crate) const GLOBAL_COUNT: usize = 17;
 
 /// The options of the program, in the order in which the file has them.
-pub(crate) const GLOBALS: [Row; 16] = [
+pub(crate) const GLOBALS: [Row; 17] = [
     Row {
         name: b"weechat.history.max_buffer_lines_number",
         kind: LINES,
@@ -56,6 +61,12 @@ pub(crate) const GLOBALS: [Row; 16] = [
         kind: CLIENTS,
         default: b"5",
         range: b"1 to 64",
+    },
+    Row {
+        name: b"relay.network.max_unsent",
+        kind: MEGABYTES,
+        default: b"0",
+        range: b"0 to 4096",
     },
     Row {
         name: b"relay.port.weechat",
@@ -224,7 +235,7 @@ pub(crate) fn server_place(name: &[u8]) -> Option<usize>
 
 /// An option of the program.
 pub(crate) fn global_row(place: usize) -> Row
-    requires { place < 16 }
+    requires { place < 17 }
     ensures { row_of result ≡ row_at globals place }
 {
     row_in(&GLOBALS, place)

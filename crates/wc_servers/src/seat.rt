@@ -12,6 +12,9 @@ use wc_irc::{Act, Server};
 use wc_ircmsg::Message;
 use wc_text::{Cause, Items, LinkId, NoMemory};
 
+/// How many bytes may wait to be sent to a server.
+const MOST_UNSENT: usize = 16 << 20;
+
 /// A server over its link. One that is leaving takes part in nothing more, and its unsent bytes are
 /// still lent.
 #[derive(Drop)]
@@ -100,14 +103,17 @@ impl Seat {
         self.unsent.advance(count);
     }
 
-    /// Puts a line with its end after the unsent bytes. Where memory is refused they stay as they
-    /// were.
+    /// Puts a line with its end after the unsent bytes. Where memory is refused, or they would be more
+    /// than 16 MB, they stay as they were.
     pub(crate) fn tell(&mut self, line: &[u8]) -> Result<(), NoMemory>
         ensures told { OnOk result (self.new ≡ told line.now self.old) }
         ensures unchanged { OnErr result (self.new ≡ self.old) }
         ensures link { self.new.link ≡ self.old.link }
     {
         let count = line.len().checked_add(END.len()).ok_or(NoMemory)?;
+        if self.unsent.len().saturating_add(count) > MOST_UNSENT {
+            return Err(NoMemory);
+        }
         if self.unsent.reserve(count).is_err() {
             return Err(NoMemory);
         }

@@ -3,7 +3,7 @@
 ghost use Rattle.std.specs.Prelude.{◌≡◌};
 ghost use Rattle.wc_session.specs.Heeded.{option_value, password_of, masks_of};
 
-use wc_options::Options;
+use wc_options::{Options, number_in};
 
 /// The value of the option with a name, which is empty where there is none.
 pub fn option_value<'a>(options: &'a Options, name: &[u8]) -> &'a [u8]
@@ -29,4 +29,16 @@ pub fn masks_of(options: &Options) -> &[u8]
     ensures { result.now ≡ masks_of options.now }
 {
     option_value(options, b"relay.network.password_hash_algo")
+}
+
+/// The option of how many megabytes of unsent bytes a client may have.
+const MAX_UNSENT: &[u8] = b"relay.network.max_unsent";
+
+/// How many unsent bytes a client may have, where that is bounded. The option has megabytes, of which
+/// none are no bound.
+pub fn most_unsent(options: &Options) -> Option<usize> {
+    match number_in(option_value(options, MAX_UNSENT), 1, 4096) {
+        Some(megabytes) => Some((megabytes as usize) << 20),
+        None => None,
+    }
 }

@@ -13,6 +13,7 @@ ghost use Rattle.wc_session.specs.Sync.{follows, after_event};
 
 use crate::buffer_event::BufferEvent;
 use crate::client::Client;
+use crate::heeded::most_unsent;
 use crate::outcome::Outcome;
 use crate::request_context::RequestContext;
 use crate::served::serve;
@@ -24,12 +25,31 @@ use wc_relaycmd::Request;
 use wc_text::{Handle, LinkId, NoMemory};
 use wc_world::World;
 
+/// How many unsent bytes a client may have before its login: some hundred replies to `handshake`.
+const MOST_BEFORE_LOGIN: usize = 1 << 16;
+
+/// How large a block of unsent bytes may be that is kept while none are left.
+const MOST_KEPT: usize = 1 << 16;
+
+/// Gives the block back of bytes of which none are left.
+fn give_back(bytes: &mut BytesMut)
+    requires { length bytes.old.items ≡ 0 }
+    ensures { bytes.new.items ≡ bytes.old.items }
+{
+    *bytes = BytesMut::new(*bytes.allocator());
+}
+
 /// The relay's side of one client: what is known of it, and the bytes that are still to be sent to
-/// it.
+/// it. Where these reach a bound more are refused, as where there is no memory for them.
 #[derive(Drop)]
 pub struct Session {
     client: Client,
     unsent: BytesMut,
+    /// How many bytes of memory the unsent ones had at most since none were left.
+    largest: usize,
+    /// How many unsent bytes the client may have once it is logged in, as the options had it at its
+    /// last request.
+    most_after_login: Option<usize>,
 }
 
 impl Model for Session {
@@ -48,6 +68,8 @@ impl Session {
         Ok(Session {
             client: Client::new(alloc, link, nonce),
             unsent: BytesMut::new(alloc),
+            largest: 0,
+            most_after_login: None,
         })
     }
 
@@ -56,7 +78,8 @@ impl Session {
     ///
     /// `Leave` where the client asked to quit, its login was refused, or it asked for something
     /// else before its login.
-    /// `NoMemory` leaves the session as it was.
+    /// `NoMemory` leaves the session as it was. It is the answer too where the unsent bytes have
+    /// reached their bound: 65,536 before the login, and `relay.network.max_unsent` after it.
     pub fn request(
         &mut self,
         alloc: Global,
@@ -75,6 +98,10 @@ impl Session {
             (objects : List Object) → dump_asked world.now request.command ≡ Some objects →
             Sends self.old.unsent self.new.unsent (reply request.id objects)) }
     {
+        self.most_after_login = most_unsent(context.options);
+        if self.is_full() {
+            return Outcome::NoMemory;
+        }
         let _ = world.buffers().groups();
         let Ok(outcome) = serve(
             alloc,
@@ -89,8 +116,33 @@ impl Session {
         outcome
     }
 
-    /// Puts an event after the unsent bytes, where it is for this client. Where memory is refused
-    /// the session stays as it was.
+    /// How many bytes may wait to be sent to the client, where that is bounded: 65,536 before its
+    /// login, and after it what `relay.network.max_unsent` had at its last request.
+    pub fn most_unsent(&self) -> Option<usize> {
+        if self.client.logged_in {
+            return self.most_after_login;
+        }
+        Some(MOST_BEFORE_LOGIN)
+    }
+
+    /// Whether the unsent bytes have reached their bound.
+    fn is_full(&self) -> bool {
+        match self.most_unsent() {
+            Some(most) => most <= self.unsent.len(),
+            None => false,
+        }
+    }
+
+    /// Whether so many more unsent bytes do not pass their bound.
+    fn has_room(&self, more: usize) -> bool {
+        match self.most_unsent() {
+            Some(most) => self.unsent.len().saturating_add(more) <= most,
+            None => true,
+        }
+    }
+
+    /// Puts an event after the unsent bytes, where it is for this client. Where memory is refused, or
+    /// the bytes would pass `relay.network.max_unsent`, the session stays as it was.
     pub fn append_event(&mut self, event: &BufferEvent) -> Result<(), NoMemory>
         ensures told { OnOk result (self.new ≡ with_event event.now self.old) }
         ensures refused { OnErr result (self.new ≡ self.old) }
@@ -100,6 +152,9 @@ impl Session {
             IsOk result }
     {
         if self.client.follows(event.kind(), event.buffer()) {
+            if !self.has_room(event.as_slice().len()) {
+                return Err(NoMemory);
+            }
             self.unsent.extend_from_slice(event.as_slice())?;
         }
         self.client.hear(event.kind(), event.buffer());
@@ -128,13 +183,19 @@ impl Session {
         self.unsent.as_slice()
     }
 
-    /// Takes the first bytes away from the unsent ones, in the same time however many are left.
+    /// Takes the first bytes away from the unsent ones, in the same time however many are left. A
+    /// large block is given back as none are left.
     pub fn gone(&mut self, n: usize)
         requires { n ≤ length self.old.unsent }
         ensures unsent { self.new.unsent ≡ drop n self.old.unsent }
         ensures client { self.new.client ≡ self.old.client }
     {
+        self.largest = self.largest.max(self.unsent.capacity());
         self.unsent.advance(n);
+        if self.largest > MOST_KEPT && self.unsent.is_empty() {
+            give_back(&mut self.unsent);
+            self.largest = 0;
+        }
     }
 
     /// The link of the client.

@@ -1,11 +1,14 @@
 //! WebSocket links: what their frames come to, and what is owed to them, in frames.
 
-ghost use Rattle.std.specs.Prelude.{◌≡◌, ◌≤◌, None, Some, IfSome, OnOk, length, true, false};
+ghost use Rattle.std.specs.Prelude.{◌≡◌, ◌≤◌, ◌++◌, None, Some, IfSome, OnOk, OnErr, length};
+ghost use Rattle.std.specs.Prelude.{true, false};
 ghost use Rattle.std.specs.Option.{option_copied};
 ghost use Rattle.wc_turns.specs.Sockets.{IsSocketCause, ServesSocket, ClosesSocket, FeedsHeld};
 ghost use Rattle.wc_turns.specs.Sockets.{ServesFrames, ServesOpened, ServesBytes, cause_of};
 ghost use Rattle.wc_turns.specs.Sockets.{then_of, ServesPiece};
 ghost use Rattle.wc_framing.specs.Framing.{is_socket};
+ghost use Rattle.wc_framing.specs.Messages.{Frames};
+ghost use Rattle.wc_framing.specs.Unframed.{Fed};
 ghost use Rattle.wc_outside.specs.Keyed.{at_key};
 ghost use Rattle.wc_board.specs.Connections.{connection_link, is_open_at};
 ghost use Rattle.wc_turns.specs.Events.{read_events};
@@ -20,7 +23,7 @@ use crate::links::LinkState;
 use crate::tail::Tail;
 use std::alloc::Global;
 use wc_core::Core;
-use wc_framing::{Belongs, Framing, feed_piece, next_message, put_messages};
+use wc_framing::{Belongs, Framed, Framing, feed_piece, next_message, put_messages};
 use wc_text::{Cause, LinkId, NoMemory, Text};
 use wc_ws::{PutRefused, WsGot, WsLink, WsRefused};
 
@@ -96,6 +99,25 @@ fn serve_frames(alloc: Global, core: &mut Core, state: &mut LinkState, bytes: &[
     close_socket(core, state, cause, ran);
 }
 
+/// Feeds a piece to a WebSocket, where so many bytes may wait to be sent to its client.
+fn feed_bounded(socket: &mut WsLink, most: Option<usize>, piece: &[u8]) -> Result<(), NoMemory>
+    ensures ok { OnOk result ((bytes text : List ℕ) → Fed bytes text socket.old →
+        Fed (bytes ++ piece.now) text socket.new) }
+    ensures err { OnErr result (socket.new ≡ socket.old) }
+{
+    socket.set_most_unsent(most);
+    feed_piece(socket, piece)
+}
+
+/// Puts the messages at the front of these bytes into frames, where so many bytes may wait to be sent.
+fn put_bounded(socket: &mut WsLink, most: Option<usize>, bytes: &[u8]) -> Framed
+    ensures within { result.count ≤ length bytes.now }
+    ensures frames { Frames bytes.now socket.old result socket.new }
+{
+    socket.set_most_unsent(most);
+    put_messages(socket, bytes)
+}
+
 /// Feeds a piece to a WebSocket, and serves the messages that are at the front of what was fed.
 fn serve_piece(
     alloc: Global,
@@ -110,7 +132,7 @@ fn serve_piece(
     ensures serves { ServesPiece link.0 bytes.now result socket.old socket.new core.old core.new
         tail.old tail.new ran.old ran.new }
 {
-    match feed_piece(socket, bytes) {
+    match feed_bounded(socket, core.most_unsent(link), bytes) {
         Ok(()) => serve_ws(alloc, socket, core, link, tail, ran),
         Err(NoMemory) => WsThen::Closed(Cause::NoMemory),
     }
@@ -249,7 +271,8 @@ impl Headless {
         let Framing::Socket(socket) = &mut self.links.opened[place].framing else {
             return None;
         };
-        let framed = put_messages(socket, self.core.unsent(link)?);
+        let most = self.core.most_unsent(link);
+        let framed = put_bounded(socket, most, self.core.unsent(link)?);
         self.core.gone(link, framed.count);
         framed.refused
     }

@@ -15,6 +15,17 @@ use websocket::protocol::{
 /// How many bytes a message and a frame have at most.
 const MESSAGE_LIMIT: usize = 1_048_576;
 
+/// How large a block may be that is kept while nothing is to be sent.
+const MOST_KEPT: usize = 1 << 16;
+
+/// Gives the block back of bytes of which none are left.
+fn give_back(bytes: &mut BytesMut)
+    requires { length bytes.old.items ≡ 0 }
+    ensures { bytes.new.items ≡ bytes.old.items }
+{
+    *bytes = BytesMut::new(*bytes.allocator());
+}
+
 /// A server's side of a WebSocket, with what was fed and what is to be sent.
 #[derive(Drop)]
 pub struct WsLink {
@@ -22,6 +33,10 @@ pub struct WsLink {
     pub(crate) context: WebSocketContext,
     pub(crate) input: BytesMut,
     pub(crate) output: BytesMut,
+    /// How many bytes may wait to be sent, where that is bounded.
+    most_unsent: Option<usize>,
+    /// How many bytes of memory those had at most since none were left.
+    largest: usize,
 }
 
 impl Model for WsLink {
@@ -60,7 +75,25 @@ impl WsLink {
             context: WebSocketContext::new(alloc, Role::Server, config),
             input: BytesMut::new(alloc),
             output: BytesMut::new(alloc),
+            most_unsent: None,
+            largest: 0,
         })
+    }
+
+    /// Sets how many bytes may wait to be sent: beyond them nothing is put or answered, as where there
+    /// is no memory for it.
+    pub fn set_most_unsent(&mut self, most: Option<usize>)
+        ensures { self.new ≡ self.old }
+    {
+        self.most_unsent = most;
+    }
+
+    /// Whether so many more bytes may wait to be sent.
+    pub(crate) fn has_room(&self, more: usize) -> bool {
+        match self.most_unsent {
+            Some(most) => self.output.len().saturating_add(more) <= most,
+            None => true,
+        }
     }
 
     /// Takes what the client sent, after what was fed before.
@@ -83,15 +116,22 @@ impl WsLink {
         self.output.as_slice()
     }
 
-    /// Forgets the first bytes of what is to be sent: they were sent.
+    /// Forgets the first bytes of what is to be sent: they were sent. A large block is given back as
+    /// none are left.
     pub fn gone(&mut self, n: usize)
         requires { n ≤ length self.old.output }
         ensures { self.new ≡ record self.old { output = drop n self.old.output } }
     {
+        self.largest = self.largest.max(self.output.capacity());
         self.output.advance(n);
+        if self.largest > MOST_KEPT && self.output.is_empty() {
+            give_back(&mut self.output);
+            self.largest = 0;
+        }
     }
 
-    /// Puts a message, as one binary frame, after what is to be sent.
+    /// Puts a message, as one binary frame, after what is to be sent. `NotTaken` exactly where the
+    /// link takes no messages, and `NoMemory` also where too much waits to be sent.
     pub fn put(&mut self, message: &[u8]) -> Result<(), PutRefused>
         ensures ok { OnOk result (self.new ≡ record self.old {
           output = self.old.output ++ binary_frame message.now;
@@ -101,6 +141,9 @@ impl WsLink {
     {
         if self.stage != WsStage::Frames || !self.context.can_write() {
             return Err(PutRefused::NotTaken);
+        }
+        if !self.has_room(message.len()) {
+            return Err(PutRefused::NoMemory);
         }
         match put_binary(&mut self.context, &mut self.output, message) {
             Ok(()) => Ok(()),

@@ -48,6 +48,11 @@ impl WsLink {
         if !self.context.can_read() {
             return Ok(WsGot::Ended);
         }
+        // what a client that does not read asks for is not answered without end
+        if !self.has_room(0) {
+            self.stage = WsStage::Over(WsRefused::NoMemory);
+            return Err(WsRefused::NoMemory);
+        }
         match read_frame(alloc, &mut self.context, &mut self.input, &mut self.output) {
             Ok(got) => Ok(got),
             Err(cause) => {
