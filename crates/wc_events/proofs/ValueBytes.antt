@@ -1,13 +1,16 @@
 -- The bytes of values.
-use Rattle.std.proofs.Common.{◌≡◌, ℕ, ℤ, suc, ◌+◌, ◌<◌, ◌≤◌, List, [], ◌∷◌, ◌++◌, map, length, take, get_or, Some, refl, ap, ◌∙◌, arith}
+use Rattle.std.proofs.Common.{◌≡◌, ℕ, ℤ, suc, true, nat_le, ◌+◌, ◌-◌, ◌/◌, ◌^◌, ◌<◌, ◌≤◌, List, [], ◌∷◌, ◌++◌, map, length, take, get_or, Some, refl, ap, ◌∙◌, arith}
 use Rattle.std.proofs.lemmas.List.{length-append, length-map, take_more}
 use Rattle.std.proofs.lemmas.List.Concat.{flat_map-append}
-use Rattle.std.specs.Fmt.{signed_decimal}
+use Rattle.std.proofs.lemmas.Bool.Decides.{nat_tests}
+use Rattle.std.specs.Fmt.{decimal, signed_decimal}
+use Rattle.itoa.proofs.Decimal.{length_pair, length_two}
 use Rattle.std.specs.Int.{w8, w32, to_be_bytes, cast_unsigned}
 use Rattle.std.specs.List.{flat_map}
 use Rattle.bytes.specs.Filled.{Filled}
 use denote.Hole.Carrier.{out}
 use Rattle.wc_text.specs.declared.names.Pair.{Pair}
+use Rattle.wc_lines.specs.Packed.{spelled, all_spelled}
 use Rattle.wc_objects.specs.declared.kind.Kind.TheVariants as k
 use Rattle.wc_objects.specs.Kinds.{letters}
 use Rattle.wc_objects.specs.declared.object.Object.TheVariants as o
@@ -15,7 +18,7 @@ use Rattle.wc_objects.specs.declared.object.Object.TheViews.{out-Object, out-rol
 use Rattle.wc_objects.specs.Spelling.{value_bytes, simple_bytes, pair_bytes, pointer_bytes, short_bytes, text_bytes, with_count, be32, HasRoomFor}
 use Rattle.wc_objects.proofs.Rooms.{length-be32}
 use Rattle.wc_events.specs.BufferObjects.{pair_of, table, text}
-use Rattle.wc_events.specs.LineObjects.{texts}
+use Rattle.wc_events.specs.LineObjects.{moment, texts}
 use Rattle.wc_events.specs.ValueBytes.{tag_bytes, var_bytes}
 
 pub int_value : (n : ℤ) → value_bytes (o.Int n) ≡ to_be_bytes w32 (cast_unsigned w32 n)
@@ -65,6 +68,15 @@ tags_length tags =
     ap length (tags_value tags)
     ∙ omega (arith, length-append (letters k.Str) (with_count tag_bytes tags), length-append (be32 (length tags)) (flat_map tag_bytes tags), length-be32 (length tags))
 
+-- tags lie in memory as they are written
+pub spelled_tags_are : (tags : List (List ℕ)) → all_spelled tags ≡ flat_map tag_bytes tags
+unfolding spelled text_bytes be32
+spelled_tags_are [] = refl
+spelled_tags_are (t ∷ tags) = ap (λ (b : List ℕ). spelled t ++ b) (spelled_tags_are tags)
+
+pub spelled_length : (tags : List (List ℕ)) → length (all_spelled tags) ≡ length (flat_map tag_bytes tags)
+spelled_length tags = ap length (spelled_tags_are tags)
+
 -- ---- variables
 each_var : (vars : List Pair) → flat_map pair_bytes (map pair_of vars) ≡ flat_map var_bytes vars
 unfolding simple_bytes out-Object out
@@ -80,6 +92,22 @@ pub table_length : (vars : List Pair) → length (value_bytes (table vars)) ≡ 
 table_length vars =
     ap length (table_value vars)
     ∙ omega (arith, length-append (letters k.Str) (letters k.Str ++ with_count var_bytes vars), length-append (letters k.Str) (with_count var_bytes vars), length-append (be32 (length vars)) (flat_map var_bytes vars), length-be32 (length vars))
+
+-- ---- dates
+ten_long : (n : ℕ) → 1000000000 ≤ n → n ≤ 9999999999 → length (decimal n) ≡ 10
+ten_long n least most =
+    let one = length_pair n (omega (arith, least)) (omega (arith, most)) in
+    let two = length_pair (n / 100) (omega (arith, least)) (omega (arith, most)) in
+    let three = length_pair (n / 100 / 100) (omega (arith, least)) (omega (arith, most)) in
+    let four = length_pair (n / 100 / 100 / 100) (omega (arith, least)) (omega (arith, most)) in
+    let five = length_two (n / 100 / 100 / 100 / 100) (omega (arith, least)) (omega (arith, most)) in
+    omega (arith, one, two, three, four, five)
+
+pub date_length : (date : ℕ) → 1000000000 ≤ date → date ≤ 9999999999 → length (value_bytes (o.Tim (moment date))) ≡ 11
+unfolding value_bytes simple_bytes out-Object out
+date_length date least most =
+    let few : nat_le date (2 ^ 63 - 1) ≡ true = grind (arith, nat_tests) in
+    rw few (omega (arith, ten_long date least most))
 
 -- what values are as bytes
 pub ruleset value_facts = (int_value, int_length, chr_value, chr_length, ptr_value, tim_value, str_value, tags_length, table_length)

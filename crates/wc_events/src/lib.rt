@@ -9,6 +9,7 @@ mod flip_lookup;
 mod front;
 mod lent_nick;
 mod lent_value;
+mod line_bytes;
 mod line_objects;
 mod nick_bytes;
 mod nick_items;

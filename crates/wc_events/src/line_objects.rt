@@ -22,7 +22,8 @@ pub fn truth(on: bool) -> i8
 }
 
 /// A date in seconds. One that is greater than the protocol can say counts as the greatest.
-fn moment(date: u64) -> i64
+#[inline(always)]
+pub(crate) fn moment(date: u64) -> i64
     ensures { result ≡ moment date }
 {
     i64::try_from(date).unwrap_or(i64::MAX)

@@ -26,19 +26,18 @@ use wc_text::Text;
 
 // ---- what each leaves of a room
 
+/// What is left after each tag. They lie as they are written.
+#[inline(always)]
+#[tactic(auto, using(crate::proofs::ValueBytes::spelled_length))]
 fn room_after_each_tag(room: usize, line: &PackedLine) -> Option<usize>
     ensures { FitsIn result room (flat_map tag_bytes line.now.tags) }
 {
-    let mut left = room;
-    for tag in line.tags() {
-        left = room_after_bytes(left, tag)?;
-    }
-    Some(left)
+    room.checked_sub(line.spelled_tags().len())
 }
 
 /// What is left after the tags of a line.
 #[tactic(auto, using(crate::proofs::ValueBytes::value_facts))]
-fn room_after_tags(room: usize, line: &PackedLine) -> Option<usize>
+pub(crate) fn room_after_tags(room: usize, line: &PackedLine) -> Option<usize>
     ensures { FitsIn result room (value_bytes (objects.Arr kinds.Str (texts line.now.tags))) }
 {
     room_after_each_tag(room.checked_sub(7)?, line)
@@ -70,20 +69,14 @@ fn room_after_table(room: usize, vars: &Vars) -> Option<usize>
 
 // ---- each put after the bytes that are in a buffer
 
-fn put_tag(out: &mut BytesMut, tag: &[u8])
-    requires { HasRoomFor out.old (tag_bytes tag.now) }
-    ensures { Puts out.old out.new (tag_bytes tag.now) }
-{
-    put_bytes(out, tag);
-}
-
+/// Puts each tag. They lie as they are written.
+#[inline(always)]
+#[tactic(auto, using(crate::proofs::ValueBytes::spelled_length))]
 fn put_each_tag(out: &mut BytesMut, line: &PackedLine)
     requires { HasRoomFor out.old (flat_map tag_bytes line.now.tags) }
     ensures { Puts out.old out.new (flat_map tag_bytes line.now.tags) }
 {
-    for tag in line.tags() {
-        put_tag(out, tag);
-    }
+    out.extend_reserved(line.spelled_tags());
 }
 
 fn put_counted_tags(out: &mut BytesMut, line: &PackedLine)
@@ -96,7 +89,7 @@ fn put_counted_tags(out: &mut BytesMut, line: &PackedLine)
 
 /// Puts the tags of a line.
 #[tactic(auto, using(crate::proofs::ValueBytes::value_facts))]
-fn put_tags(out: &mut BytesMut, line: &PackedLine)
+pub(crate) fn put_tags(out: &mut BytesMut, line: &PackedLine)
     requires { HasRoomFor out.old (value_bytes (objects.Arr kinds.Str (texts line.now.tags))) }
     ensures { Puts out.old out.new (value_bytes (objects.Arr kinds.Str (texts line.now.tags))) }
 {

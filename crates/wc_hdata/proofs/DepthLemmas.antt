@@ -173,6 +173,19 @@ module _ (world : World) (steps : List Step) (old new : List ℕ) (before : List
       ∙ ap (λ l. at_level world steps new (d + 1) next ++ l) (sym new_rest)
       ∙ sym (nodes_last world steps new 0 (d + 1) (before ++ rest ∷ []) next deeper)
 
+-- the last step leads to one place from this one: the list of it is never opened
+module _ (world : World) (steps : List Step) (old new newer : List ℕ) (before : List (List Place)) (top rest : List Place) (place last : Place) (d : ℕ) (default : Step)
+    (is : top ≡ place ∷ rest) (deep : d ≡ length before) (all : length old ≡ length steps + 1) (put : new ≡ set old d (pointer_of world.groups place))
+    (led : reach world (get_or steps d default) place ≡ last ∷ []) (end : d + 1 ≡ length steps) (put_last : newer ≡ set new (d + 1) (pointer_of world.groups last)) where
+  pub walk_one : nodes_left world steps old 0 (before ++ top ∷ []) ≡ record { pointers = newer; place = last } ∷ nodes_left world steps newer 0 (before ++ rest ∷ [])
+  walk_one =
+      let on = before ++ rest ∷ [] in
+      let deeper : d + 1 ≡ length on = omega (arith, deep, length-append before (rest ∷ [])) in
+      let still : length new ≡ length steps + 1 = omega (arith, ap length put, length-set old d (pointer_of world.groups place), all) in
+      walk_on world steps old new before top rest place d is deep all put (last ∷ []) default (omega (arith, end)) (sym led)
+      ∙ walk_given world steps new newer on (last ∷ []) [] last (d + 1) refl deeper still put_last end
+      ∙ ap (λ l. record { pointers = newer; place = last } ∷ l) (walk_back world steps newer on [] refl)
+
 -- ---- how often a walk turns
 
 module _ (world : World) (steps : List Step) (before : List (List Place)) (top rest : List Place) (place : Place) (d : ℕ)

@@ -8,13 +8,13 @@ use Rattle.wc_objects.specs.declared.object.Object.TheViews.{out-roll-HdaItem}
 use Rattle.wc_objects.specs.Spelling.{item_bytes, value_bytes, message_bytes, body_bytes, pointer_bytes, be32}
 use Rattle.wc_objects.proofs.Rooms.{length-be32}
 use Rattle.wc_keys.specs.declared.key.Key.{Key}
-use Rattle.wc_events.specs.ValueBytes.{bytes_if}
+use Rattle.wc_events.specs.ValueBytes.{bytes_if, line_bytes}
 use Rattle.wc_events.proofs.HdaMessages.{hda_body_is}
 use Rattle.wc_hdata.specs.declared.path.Path.{Path}
 use Rattle.wc_hdata.specs.Hdata.{all_bytes, bytes_of, keys_asked, walk_object}
 use Rattle.wc_keys.specs.Keys.{keys_text}
 use Rattle.wc_hdata.specs.Paths.{h_path_of}
-use Rattle.wc_hdata.specs.Reached.{Place}
+use Rattle.wc_hdata.specs.Reached.{Data_at, HeldLine, Place}
 use Rattle.wc_hdata.specs.Refusals.{reached}
 use Rattle.wc_hdata.specs.Values.{value_of, values_of, item_of, items_of}
 use Rattle.wc_hdata.specs.Walk.{Node}
@@ -30,6 +30,12 @@ values_bytes world place (key ∷ keys) = by (value_of world place key) (values_
         → flat_map value_bytes (cons_option value (values_of world keys place)) ≡ bytes_if value ++ keys_bytes world place keys
     by None e = e
     by (Some value) e = ap (λ (b : List ℕ). value_bytes value ++ b) e
+
+-- what a line says
+pub line_is : (world : World) (held : HeldLine) (keys : List Key) → keys_bytes world (Data_at held) keys ≡ flat_map (line_bytes held.buffer held.line) keys
+unfolding key_bytes value_of line_bytes
+line_is world held [] = refl
+line_is world held (key ∷ keys) = ap (λ (b : List ℕ). key_bytes world (Data_at held) key ++ b) (line_is world held keys)
 
 item_is : (world : World) (keys : List Key) (node : Node) → item_bytes (item_of world keys node) ≡ node_bytes world keys node
 unfolding item_bytes

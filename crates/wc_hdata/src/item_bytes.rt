@@ -13,6 +13,7 @@ use crate::lists::Lists;
 use crate::place::Place;
 use crate::place_values::value_of;
 use bytes::BytesMut;
+use wc_events::parts::{put_line, room_after_line};
 use wc_objects::parts::put_pointer;
 
 // ---- values
@@ -49,12 +50,7 @@ fn put_value(out: &mut BytesMut, lists: &Lists<'_>, place: Place<'_>, key: Key)
 
 /// What is left after the values of a place that the keys name.
 #[inline(never)]
-pub(crate) fn room_after_values(
-    room: usize,
-    lists: &Lists<'_>,
-    place: Place<'_>,
-    keys: &[Key],
-) -> Option<usize>
+fn room_after_each(room: usize, lists: &Lists<'_>, place: Place<'_>, keys: &[Key]) -> Option<usize>
     requires { IsKept lists.now (place_of place) }
     ensures { FitsIn result room (keys_bytes lists.now.world (place_of place.entry) keys.now) }
 {
@@ -65,14 +61,45 @@ pub(crate) fn room_after_values(
     Some(left)
 }
 
-#[inline(always)]
-fn put_values(out: &mut BytesMut, lists: &Lists<'_>, place: Place<'_>, keys: &[Key])
+#[inline(never)]
+fn put_each(out: &mut BytesMut, lists: &Lists<'_>, place: Place<'_>, keys: &[Key])
     requires kept { IsKept lists.now (place_of place) }
     requires room { HasRoomFor out.old (keys_bytes lists.now.world (place_of place) keys.now) }
     ensures { Puts out.old out.new (keys_bytes lists.now.world (place_of place.entry) keys.now) }
 {
     for key in keys {
         put_value(out, lists, place, *key);
+    }
+}
+
+/// What is left after the values of a place that the keys name. What lines say has a loop of its
+/// own, since most of long answers are lines.
+#[tactic(auto, using(crate::proofs::WalkMessage::line_is))]
+pub(crate) fn room_after_values(
+    room: usize,
+    lists: &Lists<'_>,
+    place: Place<'_>,
+    keys: &[Key],
+) -> Option<usize>
+    requires { IsKept lists.now (place_of place) }
+    ensures { FitsIn result room (keys_bytes lists.now.world (place_of place.entry) keys.now) }
+{
+    match place {
+        Place::LineData(held) => room_after_line(room, held.buffer, held.line, keys),
+        _ => room_after_each(room, lists, place, keys),
+    }
+}
+
+#[inline(always)]
+#[tactic(auto, using(crate::proofs::WalkMessage::line_is))]
+fn put_values(out: &mut BytesMut, lists: &Lists<'_>, place: Place<'_>, keys: &[Key])
+    requires kept { IsKept lists.now (place_of place) }
+    requires room { HasRoomFor out.old (keys_bytes lists.now.world (place_of place) keys.now) }
+    ensures { Puts out.old out.new (keys_bytes lists.now.world (place_of place.entry) keys.now) }
+{
+    match place {
+        Place::LineData(held) => put_line(out, held.buffer, held.line, keys),
+        _ => put_each(out, lists, place, keys),
     }
 }
 

@@ -1,23 +1,26 @@
 //! A walk along a path, place by place. Nothing is made of the places but what is asked for.
 
 ghost use Rattle.std.specs.Prelude.{◌≡◌, ◌<◌, ◌∷◌, ◌++◌, [], None, IfOk, IfSome, MatchOption};
-ghost use Rattle.std.specs.Prelude.{length, vec_capacity};
+ghost use Rattle.std.specs.Prelude.{length, set, vec_capacity};
 ghost use Rattle.std.specs.List.{AllByRecursion};
 ghost use Rattle.wc_hdata.specs.Depth.{IsWalk, nodes_left, turns_left};
-ghost use Rattle.wc_hdata.specs.Kept.{AreKept, IsFor, IsKept, IsReady};
-ghost use Rattle.wc_hdata.specs.Reached.{place_of};
+ghost use Rattle.wc_hdata.specs.Kept.{AreKept, IsFor, IsHeld, IsKept, IsReady, Listed};
+ghost use Rattle.wc_hdata.specs.Reached.{Data_at, held_line, place_of};
 ghost use Rattle.wc_hdata.specs.Refusals.{reached};
 ghost use Rattle.wc_hdata.specs.Starts.{starts};
+ghost use Rattle.wc_hdata.specs.Steps.{reach};
 ghost use Rattle.wc_hdata.specs.Walk.{nodes_at, nodes_reached};
 ghost use Rattle.wc_hdata.specs.WalkBytes.{pointers_bytes};
+ghost use Rattle.wc_model.specs.World.{World};
 
 use crate::cursor::Cursor;
 use crate::lists::Lists;
 use crate::path::{Path, Step};
-use crate::place::{Place, pointer_of};
+use crate::place::{HeldLine, Place, pointer_of};
 use crate::pointers::Pointers;
 use crate::reach::reach;
 use crate::starts::starts;
+use crate::variable::Variable;
 use std::alloc::Global;
 use std::marker::Model;
 use wc_text::NoMemory;
@@ -161,6 +164,37 @@ fn go_on<'b, 'a>(
     if level == steps.len() {
         return Some(place);
     }
+    if level + 1 == steps.len() {
+        if let Some(said) = said_by(steps[level], place) {
+            put_said(pointers, level + 1, said);
+            return Some(Place::LineData(said));
+        }
+    }
     open.push_reserved(reach(lists, steps[level], place));
     None
+}
+
+/// Puts the pointer of what a line says in the place of another.
+#[inline(always)]
+fn put_said(pointers: &mut Pointers, level: usize, said: HeldLine<'_>)
+    requires { level < length pointers.old }
+    ensures { pointers.new ≡ set pointers.old level (held_line said.entry).line.content.0 }
+{
+    pointers.put(level, said.line.content().0);
+}
+
+/// What a line says, where a step leads to that. It is one place for each of many, so that a walk
+/// need not open a list for it.
+#[inline(always)]
+#[tactic(auto, unfolding(crate::specs::Steps::reach))]
+fn said_by<'a>(step: Step, place: Place<'a>) -> Option<HeldLine<'a>>
+    ensures led { IfSome result (λ said. (world : World) → reach world step (place_of place.entry)
+        ≡ Data_at (held_line said) ∷ []) }
+    ensures kept { IfSome result (λ said. (listed : Listed) →
+        IsKept listed (place_of place.entry) → IsHeld listed.world (held_line said)) }
+{
+    match (place, step.variable) {
+        (Place::Line(held), Variable::Data) => Some(held),
+        _ => None,
+    }
 }

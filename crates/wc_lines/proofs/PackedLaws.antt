@@ -115,6 +115,13 @@ texts_of_block tags prefix message block m t at_message at_tags fit is =
     (λ i. drop (at_message i) (take (at_tags i) (is i))) ∙ ap (drop (length prefix)) (take-append_seam (prefix ++ message) end) ∙ drop-append_seam prefix message in
     λ i. texts (tags_read i) (prefix_read i) (message_read i)
 
+-- behind the message there is nothing but the tags that are read there
+pub end_of_block : (tags : List (List ℕ)) (front block : List ℕ) (t : ℕ) → t ≡ length front → AllFit tags → block ≡ front ++ all_spelled tags
+    → drop t block ≡ all_spelled (tags_of (drop t block))
+end_of_block tags front block t at_tags fit is =
+    let end : drop t block ≡ all_spelled tags = (λ i. drop (at_tags i) (is i)) ∙ drop-append_seam front (all_spelled tags) in
+    end ∙ ap all_spelled (sym (tags_of_spelled tags fit)) ∙ ap (λ bytes. all_spelled (tags_of bytes)) (sym end)
+
 -- ---- one tag after another
 spelled_more : (tags more : List (List ℕ)) → all_spelled (tags ++ more) ≡ all_spelled tags ++ all_spelled more
 spelled_more [] more = refl

@@ -1,4 +1,5 @@
 ghost use Rattle.std.specs.Prelude.{◌≡◌, length, IfOk};
+ghost use Rattle.wc_lines.specs.Packed.{all_spelled};
 ghost use Rattle.wc_lines.specs.PackedLines.{line_with};
 ghost use Rattle.wc_lines.specs.TagsLeft.{tags_left};
 
@@ -144,6 +145,13 @@ impl PackedLine {
         ensures { result ≡ length self.now.tags }
     {
         self.texts.tags_len()
+    }
+
+    /// The tags as they lie in memory: each after its length in four bytes, the highest first.
+    pub fn spelled_tags(&self) -> &[u8]
+        ensures { result.now ≡ all_spelled self.now.tags }
+    {
+        self.texts.spelled_tags()
     }
 
     pub fn prefix(&self) -> &[u8]

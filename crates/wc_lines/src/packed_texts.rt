@@ -67,6 +67,13 @@ impl PackedTexts {
         count_tags(self.block.as_slice().split_at(self.tags_at as usize).1)
     }
 
+    /// The tags as they lie in the block: each after its length in four bytes.
+    pub fn spelled_tags(&self) -> &[u8]
+        ensures { result.now ≡ all_spelled self.now.tags }
+    {
+        self.block.as_slice().split_at(self.tags_at as usize).1
+    }
+
     pub fn prefix(&self) -> &[u8]
         ensures { result.now ≡ self.now.prefix }
     {

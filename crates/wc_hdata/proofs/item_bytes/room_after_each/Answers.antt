@@ -5,7 +5,7 @@ use Rattle.wc_keys.specs.declared.key.Key.TheVariants.{Number}
 use Rattle.wc_hdata.specs.Reached.{place_of}
 use Rattle.wc_hdata.specs.WalkBytes.{key_bytes}
 use Rattle.wc_events.proofs.ValueBytes.{one_more}
-use Rattle.wc_hdata.proofs.item_bytes.room_after_values.Goals as goal
+use Rattle.wc_hdata.proofs.item_bytes.room_after_each.Goals as goal
 
 pub returns-in_err-left : goal.returns-in_err-left
 returns-in_err-left c =

@@ -3,7 +3,7 @@ use Rattle.std.specs.List.{flat_map}
 use Rattle.wc_objects.specs.Spelling.{Puts}
 use Rattle.wc_hdata.specs.Reached.{place_of}
 use Rattle.wc_hdata.specs.WalkBytes.{key_bytes}
-use Rattle.wc_hdata.proofs.item_bytes.put_values.Given as goal
+use Rattle.wc_hdata.proofs.item_bytes.put_each.Given as goal
 
 abbrev pub invariant-loop-key : goal.invariant-loop-key
 invariant-loop-key l = Puts l.fn.out l.out (flat_map (key_bytes l.lists.world (place_of l.place)) (take l.key-index l.keys))

@@ -3,7 +3,7 @@ use Rattle.wc_objects.proofs.Rooms.{next_has_room}
 use Rattle.wc_keys.specs.declared.key.Key.TheVariants.{Number}
 use Rattle.wc_hdata.specs.Reached.{place_of}
 use Rattle.wc_hdata.specs.WalkBytes.{key_bytes}
-use Rattle.wc_hdata.proofs.item_bytes.put_values.Goals as goal
+use Rattle.wc_hdata.proofs.item_bytes.put_each.Goals as goal
 
 pub put_value-requires-clause-room : goal.put_value-requires-clause-room
 put_value-requires-clause-room c =

@@ -1,0 +1,8 @@
+use Rattle.std.proofs.Common.{take}
+use Rattle.std.specs.List.{flat_map}
+use Rattle.wc_objects.specs.Spelling.{Puts}
+use Rattle.wc_events.specs.ValueBytes.{line_bytes}
+use Rattle.wc_events.proofs.line_bytes.put_line.Given as goal
+
+abbrev pub invariant-loop-key : goal.invariant-loop-key
+invariant-loop-key l = Puts l.fn.out l.out (flat_map (line_bytes l.buffer l.line) (take l.key-index l.keys))
