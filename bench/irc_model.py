@@ -7,6 +7,7 @@ wc_irc_play shows them.
 
 FORMATS = (0x02, 0x04, 0x0F, 0x11, 0x16, 0x19, 0x1A, 0x1B, 0x1C, 0x1D, 0x1F)
 DIGITS = b"0123456789"
+MOST_CHANNELS = 1024
 
 
 # ---- texts
@@ -113,6 +114,10 @@ class Server:
     def channel(self, name):
         return next((channel for channel in self.channels if self.same(channel["name"], name)), None)
 
+    def is_beyond(self, name):
+        """Whether a channel is one too many: it is not joined, and so many others are."""
+        return len(self.channels) >= MOST_CHANNELS and self.channel(name) is None
+
     def seat(self, channel, nick):
         return channel and next((seat for seat in channel["seats"] if self.same(seat[0], nick)), None)
 
@@ -159,6 +164,10 @@ class Server:
         if command not in need or len(params) < need[command] or (command == "433" and self.registered):
             return "other"
         if command in at and not self.is_channel(params[at[command]]):
+            return "other"
+        if command == "JOIN" and self.own(message["nick"]) and self.is_beyond(params[0]):
+            return "other"
+        if command == "353" and self.is_beyond(params[2]):
             return "other"
         return command
 

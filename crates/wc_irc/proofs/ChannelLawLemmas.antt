@@ -1,5 +1,5 @@
--- Each joined channel has the name of one, after any messages.
-use Rattle.std.proofs.Common.{◌≡◌, ℕ, Bool, true, false, cond, List, [], ◌∷◌, ◌++◌, map, drop, ◌+◌, Result, Ok, Err, Option, Some, None, refl, ap, sym, ◌∙◌, subst}
+-- Each joined channel has the name of one, after any messages, and there are not too many.
+use Rattle.std.proofs.Common.{◌≡◌, ℕ, Bool, true, false, cond, List, [], ◌∷◌, ◌++◌, map, drop, ◌+◌, Result, Ok, Err, Option, Some, None, refl, ap, sym, ◌∙◌, subst, arith}
 use Rattle.std.specs.Prelude.{◌&&◌, is_some, OnOk, OnErr}
 use Rattle.wc_text.specs.declared.names.Address.{Address}
 use Rattle.wc_options.specs.Options.{OptionsValue}
@@ -9,7 +9,7 @@ use Rattle.wc_ircmsg.specs.declared.prefixes.Prefixes.{Prefixes}
 use Rattle.wc_irc_texts.specs.declared.kind.MessageKind.{MessageKind}
 use Rattle.wc_irc_texts.specs.declared.kind.MessageKind.TheVariants.{Welcome, Tokens, NickInUse, Join, Part, Quit, Kick, Nick, Mode, Topic, TopicReply, Names, NamesEnd, ModeReply, Privmsg, Notice, Ping, Error, Invite, Other}
 use Rattle.wc_irc.specs.declared.refused.ServerRefused.TheVariants.{TlsOn}
-use Rattle.wc_irc.specs.ChannelLaws.{AreNamed, HasChannelNames}
+use Rattle.wc_irc.specs.ChannelLaws.{AreNamed, HasChannelNames, AreKept}
 use Rattle.wc_irc.specs.Channels.{Joined, without_nick}
 use Rattle.wc_irc.specs.ChannelStates.{channel_at, change_first, without_first, change_one, leave_one, comes_in, with_nick, new_channel, entered, after_join, after_leave, may_have, renamed}
 use Rattle.wc_irc_texts.specs.Features.{after_tokens}
@@ -22,6 +22,7 @@ use Rattle.wc_irc_nicks.specs.Seats.{with_name}
 use Rattle.wc_irc.specs.ServerActs.{after_kind, kind_to, after_server}
 use Rattle.wc_irc.specs.Servers.{ServerState, is_own, may_try, after_welcome, after_taken, told_if_alone, own_nick_from, next_nick}
 use Rattle.wc_irc.specs.Start.{is_tls, address_in, first_state, start_at, start_of}
+use Rattle.wc_irc.proofs.FewLemmas.{within_join, kind_few}
 
 -- a change of channels that keeps each name
 abbrev KeepsNames : (Joined → Joined) → Type 0
@@ -111,7 +112,7 @@ unfolding after_kind
 kind_keeps s m Welcome is are = welcomed s (param 0 m) are
 kind_keeps s m Tokens is are = told s.channels s m.params refl are
 kind_keeps s m NickInUse is are = taken s are
-kind_keeps s m Join is are = joins s m.nick (param 0 m) (join_named s.features.chan_types s.is_registered m is) are
+kind_keeps s m Join is are = joins s m.nick (param 0 m) (join_named s.features.chan_types s.is_registered m (within_join s m (kind_of s.features.chan_types s.is_registered m) is).0) are
 kind_keeps s m Part is are = leaves s m.nick (param 0 m) are
 kind_keeps s m Quit is are = all_changed s.features.chan_types (without_nick m.nick) s.channels (λ c. refl) are
 kind_keeps s m Kick is are = leaves s (param 1 m) (param 0 m) are
@@ -131,20 +132,20 @@ kind_keeps s m Other is are = are
 
 -- ---- a server at its start, after any message, and where its link begins or is lost
 
-pub started_named : (options : OptionsValue) (name : List ℕ) (s : ServerState) → start_of options name ≡ Ok s → HasChannelNames s
+pub started_kept : (options : OptionsValue) (name : List ℕ) (s : ServerState) → start_of options name ≡ Ok s → AreKept s
 unfolding start_of first_state
-started_named options name s made = by (is_tls options name) (address_in options name) made where
-  by : (t : Bool) (o : Option Address) → cond t (Err TlsOn) (start_at options name o) ≡ Ok s → HasChannelNames s
+started_kept options name s made = by (is_tls options name) (address_in options name) made where
+  by : (t : Bool) (o : Option Address) → cond t (Err TlsOn) (start_at options name o) ≡ Ok s → AreKept s
   by true o e = absurd (cc)
   by false None e = absurd (cc)
   by false (Some address) e =
       let same : first_state options name address ≡ s = cc in
-      subst HasChannelNames same tt
+      subst AreKept same (tt, omega arith)
 
-pub message_named : (s : ServerState) (m : Message) → HasChannelNames s → HasChannelNames (after_server s m)
-message_named s m are = kind_keeps s m (kind_to s m) refl are
+pub message_kept : (s : ServerState) (m : Message) → AreKept s → AreKept (after_server s m)
+message_kept s m kept = (kind_keeps s m (kind_to s m) refl kept.0, kind_few s m (kind_to s m) refl kept.1)
 
 -- what is kept in both cases of an answer
-pub kept_by : {A : Type 0} {E : Type 0} (r : Result A E) (new good bad : ServerState) → OnOk r (new ≡ good) → OnErr r (new ≡ bad) → HasChannelNames good → HasChannelNames bad → HasChannelNames new
-kept_by (Ok a) new good bad ok err one other = subst HasChannelNames (sym ok) one
-kept_by (Err e) new good bad ok err one other = subst HasChannelNames (sym err) other
+pub kept_by : {A : Type 0} {E : Type 0} (r : Result A E) (new good bad : ServerState) → OnOk r (new ≡ good) → OnErr r (new ≡ bad) → AreKept good → AreKept bad → AreKept new
+kept_by (Ok a) new good bad ok err one other = subst AreKept (sym ok) one
+kept_by (Err e) new good bad ok err one other = subst AreKept (sym err) other

@@ -13,7 +13,7 @@ use Rattle.wc_ircmsg.specs.declared.message.Message.{Message}
 use Rattle.wc_irc.specs.declared.act.Act.{Act}
 use Rattle.wc_irc.specs.declared.act.Act.TheVariants as act
 use Rattle.wc_irc.specs.CommandActs.{Errand, Refuses, Sends, Speaks, Notifies, SendsLine, Opens, SendsBoth, SendsEach, Place, if_linked, acts_of_errand, errand_of, place_in, linked_in, acts_of_typed}
-use Rattle.wc_irc.specs.LongTexts.{room_for, text_to, speech, wrapped, sent_parts, deed_room, long_said, long_done, long_speech, speech_acts, long_notice, notify_acts}
+use Rattle.wc_irc.specs.LongTexts.{room_for, text_to, speech, wrapped, sent_parts, deed_room, long_speech, speech_acts, long_notice, notify_acts}
 use Rattle.wc_irc.specs.SentLines.{told_in, refusal, too_long, sent_message, fits_line, line_acts, both_acts, each_acts}
 use Rattle.wc_irc.specs.CommandLaws.{IsInLine, AreInLine, IsReadBack, ArePartsRead, IsTalkRead, IsSpelled, IsSpelledIn, errand_typed}
 use Rattle.wc_irc.specs.CommandSeen.{IsLine, IsLead, IsSent, IsSendable, IsFit, IsFitIn, IsReadyIn, IsPlaceUtf8}

@@ -1,17 +1,15 @@
 -- What a command is for can be done as it stands, and where it is typed.
-use Rattle.std.proofs.Common.{◌≡◌, ℕ, ◌<◌, Bool, true, false, cond, List, [], ◌∷◌, ◌++◌, length, refl, sym, subst, ◌∙◌, arith, Option, Some, None, codes}
+use Rattle.std.proofs.Common.{◌≡◌, ℕ, ◌<◌, Bool, true, false, cond, List, [], ◌∷◌, length, refl, sym, subst, arith, Option, Some, None, codes}
 use Rattle.std.specs.Prelude.{◌&&◌, not, nat_le, option_map, find, bytes_eq}
 use Rattle.std.specs.List.{list_all}
 use Rattle.std.specs.Str.{IsUtf8}
 use Rattle.std.proofs.lemmas.Bool.{and_parts, and_from, not-true}
-use Rattle.std.proofs.lemmas.List.Folds.{list_all-append}
-use Rattle.std.proofs.lemmas.Str.{IsUtf8-append, IsUtf8-nil}
+use Rattle.std.proofs.lemmas.Str.{IsUtf8-nil}
 use Rattle.wc_text.specs.declared.names.Handle.{Handle}
 use Rattle.wc_text.specs.declared.names.Pair.{Pair}
-use Rattle.wc_text.proofs.Utf8Lemmas.{utf8_one, utf8_cons}
 use Rattle.wc_ircmsg.specs.Commands.{is_command}
 use Rattle.wc_ircmsg.specs.Utf8.{AreUtf8Texts}
-use Rattle.wc_ircmsg.specs.Written.{IsWritable, ends_lines, is_one_line, are_words, needs_colon}
+use Rattle.wc_ircmsg.specs.Written.{IsWritable, is_one_line, are_words, needs_colon}
 use Rattle.wc_buffers.specs.declared.row.BufferEntry.{BufferEntry}
 use Rattle.wc_buffers.specs.Calls.{EntryGroups, entry_of, vars_at}
 use Rattle.wc_buffers.specs.Kept.{AreBuffers, AreVars, IsBuffer}
@@ -24,7 +22,7 @@ use Rattle.wc_irc.proofs.LineTextLemmas.{line_word, line_rest}
 use Rattle.wc_text.specs.Splits.{word_of, rest_of}
 use Rattle.wc_text.specs.Words.{words_of}
 use Rattle.std.proofs.lemmas.Bool.Decides.{nat_tests}
-use Rattle.wc_irc.specs.CommandSeen.{IsSent, IsLine, IsLead, IsFit, IsFitIn, AreReadyWords, IsReady, IsReadyIn, IsUtf8In, IsPlaceUtf8}
+use Rattle.wc_irc.specs.CommandSeen.{IsSent, IsLine, IsFit, IsFitIn, AreReadyWords, IsReady, IsReadyIn, IsUtf8In, IsPlaceUtf8}
 use Rattle.wc_irc_words.specs.Typed.{ServerCommand, AddsServer, DeletesServer, Connects, Disconnects, Joins, Parts, Says, Notices, Queries, Does, Renames, SetsTopic, Kicks, SetsModes, AsksNames, Quotes, Talks, Wrong, Bids, is_target}
 use Rattle.wc_irc.specs.LongTexts.{action}
 use Rattle.wc_irc.proofs.FormLemmas.{reason_fit, everyday_fit}

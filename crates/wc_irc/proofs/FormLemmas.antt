@@ -232,57 +232,32 @@ form_fit place form.PartAndJoin command text utf8 known one has right line =
 
 -- ---- the table
 
-known : (w : Everyday) → is_command (everyday_command w) ≡ true
-known word.Whois = refl
-known word.Whowas = refl
-known word.Who = refl
-known word.List = refl
-known word.Away = refl
-known word.Invite = refl
-known word.Op = refl
-known word.Deop = refl
-known word.Voice = refl
-known word.Devoice = refl
-known word.Halfop = refl
-known word.Dehalfop = refl
-known word.Ban = refl
-known word.Unban = refl
-known word.Kickban = refl
-known word.Ctcp = refl
-known word.Ping = refl
-known word.Motd = refl
-known word.Cycle = refl
-known word.Oper = refl
-known word.Knock = refl
-known word.Time = refl
-known word.Version = refl
-known word.Stats = refl
-
-in_line : (w : Everyday) → is_one_line (everyday_command w) ≡ true
-in_line word.Whois = refl
-in_line word.Whowas = refl
-in_line word.Who = refl
-in_line word.List = refl
-in_line word.Away = refl
-in_line word.Invite = refl
-in_line word.Op = refl
-in_line word.Deop = refl
-in_line word.Voice = refl
-in_line word.Devoice = refl
-in_line word.Halfop = refl
-in_line word.Dehalfop = refl
-in_line word.Ban = refl
-in_line word.Unban = refl
-in_line word.Kickban = refl
-in_line word.Ctcp = refl
-in_line word.Ping = refl
-in_line word.Motd = refl
-in_line word.Cycle = refl
-in_line word.Oper = refl
-in_line word.Knock = refl
-in_line word.Time = refl
-in_line word.Version = refl
-in_line word.Stats = refl
+-- each has a command that a line may begin with
+spelled : (w : Everyday) → (is_command (everyday_command w) ≡ true) × (is_one_line (everyday_command w) ≡ true)
+spelled word.Whois = (refl, refl)
+spelled word.Whowas = (refl, refl)
+spelled word.Who = (refl, refl)
+spelled word.List = (refl, refl)
+spelled word.Away = (refl, refl)
+spelled word.Invite = (refl, refl)
+spelled word.Op = (refl, refl)
+spelled word.Deop = (refl, refl)
+spelled word.Voice = (refl, refl)
+spelled word.Devoice = (refl, refl)
+spelled word.Halfop = (refl, refl)
+spelled word.Dehalfop = (refl, refl)
+spelled word.Ban = (refl, refl)
+spelled word.Unban = (refl, refl)
+spelled word.Kickban = (refl, refl)
+spelled word.Ctcp = (refl, refl)
+spelled word.Ping = (refl, refl)
+spelled word.Motd = (refl, refl)
+spelled word.Cycle = (refl, refl)
+spelled word.Oper = (refl, refl)
+spelled word.Knock = (refl, refl)
+spelled word.Time = (refl, refl)
+spelled word.Version = (refl, refl)
+spelled word.Stats = (refl, refl)
 
 letters : (w : Everyday) → HasLetter (form_of w)
 letters word.Whois = tt
@@ -314,5 +289,5 @@ pub everyday_fit : (place : Place) (w : Everyday) (text : List ℕ) → IsUtf8In
 unfolding everyday_errand
 everyday_fit place w text utf8 line = by (is_right (form_of w) text) refl where
   by : (t : Bool) → is_right (form_of w) text ≡ t → IsFit (cond t (form_errand place (form_of w) (everyday_command w) text) (wrong_arguments (everyday_name w)))
-  by true e = form_fit place (form_of w) (everyday_command w) text utf8 (known w) (in_line w) (letters w) e line
+  by true e = form_fit place (form_of w) (everyday_command w) text utf8 (spelled w).0 (spelled w).1 (letters w) e line
   by false e = tt

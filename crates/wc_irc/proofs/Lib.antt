@@ -8,6 +8,7 @@ pub mod ReadyLemmas
 pub mod StateLemmas
 pub mod TriedLemmas
 pub mod OneChannelLemmas
+pub mod FewLemmas
 pub mod ChannelLawLemmas
 pub mod JoinLemmas
 pub mod MessageTextLemmas

@@ -1,5 +1,5 @@
 -- The lines of a login.
-use Rattle.std.proofs.Common.{◌≡◌, ℕ, Bool, true, List, [], ◌∷◌, refl, sym, subst, arith, codes}
+use Rattle.std.proofs.Common.{◌≡◌, ℕ, true, List, refl, sym, subst, arith, codes}
 use Rattle.std.specs.Prelude.{◌&&◌, not}
 use Rattle.std.proofs.lemmas.Bool.{and_from}
 use Rattle.wc_ircmsg.specs.Written.{is_one_line, IsWritable, needs_colon}

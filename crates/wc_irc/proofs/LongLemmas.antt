@@ -1,7 +1,7 @@
 -- The parts of a text that is sent are lines of text, and so is what is done.
 use Rattle.std.proofs.Common.{◌≡◌, ℕ, zero, suc, ◌<◌, ◌≤◌, Bool, true, false, cond, List, [], ◌∷◌, ◌++◌, length, get_or, refl, ap, sym, ◌∙◌, subst, arith, Option, Some, None, codes}
-use Rattle.std.specs.Prelude.{◌&&◌, not, bytes_eq, All, option_and_then}
-use Rattle.std.specs.List.{list_all, AllByRecursion}
+use Rattle.std.specs.Prelude.{not, bytes_eq, All, option_and_then}
+use Rattle.std.specs.List.{AllByRecursion}
 use Rattle.std.specs.Str.{IsUtf8}
 use Rattle.std.proofs.lemmas.Bool.{and_parts, and_from}
 use Rattle.std.proofs.lemmas.List.Folds.{list_all-append}

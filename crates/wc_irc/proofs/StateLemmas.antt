@@ -1,5 +1,5 @@
 -- Nicks that are still to be tried.
-use Rattle.std.proofs.Common.{◌≡◌, ℕ, ◌+◌, ◌≤◌, List, [], length, drop, sym, ◌∙◌, ap}
+use Rattle.std.proofs.Common.{◌≡◌, ℕ, ◌+◌, ◌≤◌, List, length, drop, sym, ◌∙◌, ap}
 use Rattle.std.proofs.lemmas.List.{drop-drop, drop_all}
 
 pub one_less : (n : ℕ) (nicks : List (List ℕ)) → drop (n + 1) nicks ≡ drop 1 (drop n nicks)

@@ -1,6 +1,6 @@
 -- What the joined channels of a server are after the messages that change them.
-use Rattle.std.specs.Prelude.{ℕ, Bool, not, ◌&&◌, List, [], ◌∷◌, ◌++◌, map, find, is_some}
-use Rattle.std.specs.Prelude.{Option, if◌then◌else◌}
+use Rattle.std.specs.Prelude.{ℕ, Bool, not, ◌&&◌, nat_le, List, [], ◌∷◌, ◌++◌, map, find, length}
+use Rattle.std.specs.Prelude.{is_some, Option, if◌then◌else◌}
 use Rattle.wc_ircmsg.specs.declared.case_map.CaseMap.{CaseMap}
 use Rattle.wc_ircmsg.specs.declared.prefixes.Prefixes.{Prefixes}
 use Rattle.wc_irc_texts.specs.declared.seat.ModeSet.{ModeSet}
@@ -35,6 +35,15 @@ change_one s name change = record s {
 
 abbrev pub leave_one : ServerState → List ℕ → ServerState
 leave_one s name = record s { channels = without_first s.features.case_map name s.channels }
+
+-- ---- so many channels are joined at most
+
+abbrev pub most_channels : ℕ
+most_channels = 1024
+
+-- whether a channel is one too many: it is not joined, and so many others are
+abbrev pub is_beyond : ServerState → List ℕ → Bool
+is_beyond s name = nat_le most_channels (length s.channels) && not (is_some (channel_at s name))
 
 -- ---- JOIN: what is no nick, or is on the list, does not come in; the own one joins the channel
 

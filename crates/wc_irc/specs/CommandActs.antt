@@ -273,17 +273,21 @@ said_errand place (Does deed) = Some (to_target (action deed) (target_in place))
 said_errand place (Talks text) = Some (talk_at text place)
 said_errand place _ = None
 
--- what is about a channel
+-- what comes into a channel, leaves it, or asks who is there
 abbrev pub channel_errand : Option ServerState → Place → ServerCommand → Option Errand
 channel_errand link place (Joins text) = Some (Sends (message (codes "JOIN") (words_of text)))
 channel_errand link place (Parts text) = Some (part_errand link place text)
-channel_errand link place (SetsTopic topic) =
-    Some (on_channel (codes "TOPIC") (new_topic topic ∷ []) (channel_in place))
-channel_errand link place (Kicks nick reason) =
-    Some (on_channel (codes "KICK") (nick ∷ reason_params reason) (channel_in place))
-channel_errand link place (SetsModes words) = Some (mode_errand place words)
 channel_errand link place AsksNames = Some (on_channel (codes "NAMES") [] (channel_in place))
 channel_errand link place _ = None
+
+-- what changes a channel
+abbrev pub change_errand : Place → ServerCommand → Option Errand
+change_errand place (SetsTopic topic) =
+    Some (on_channel (codes "TOPIC") (new_topic topic ∷ []) (channel_in place))
+change_errand place (Kicks nick reason) =
+    Some (on_channel (codes "KICK") (nick ∷ reason_params reason) (channel_in place))
+change_errand place (SetsModes words) = Some (mode_errand place words)
+change_errand place _ = None
 
 -- others; none are those that make, delete, connect and disconnect servers
 abbrev pub other_errand : Place → ServerCommand → Option Errand
@@ -300,7 +304,8 @@ or_other (Some errand) other = Some errand
 -- None for a command that is not about a buffer.
 unfoldable pub errand_of : Option ServerState → Place → ServerCommand → Option Errand
 errand_of link place command = or_other (said_errand place command)
-    (or_other (channel_errand link place command) (other_errand place command))
+    (or_other (channel_errand link place command)
+    (or_other (change_errand place command) (other_errand place command)))
 
 -- ---- what it comes to
 

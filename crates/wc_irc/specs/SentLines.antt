@@ -2,7 +2,6 @@
 use Rattle.std.specs.Prelude.{ℕ, Bool, nat_le, flat_map, List, [], ◌∷◌, ◌++◌, codes, length, Option, Some, None}
 use Rattle.std.specs.Prelude.{if◌then◌else◌}
 use Rattle.wc_text.specs.Splits.{word_of}
-use Rattle.wc_text.specs.declared.names.Handle.{Handle}
 use Rattle.wc_ircmsg.specs.declared.message.Message.{Message}
 use Rattle.wc_ircmsg.specs.Written.{line_of}
 use Rattle.wc_buffers.specs.declared.row.BufferRow.{BufferRow}

@@ -1,5 +1,5 @@
 -- What follows of each kind of message, and what the server is after it.
-use Rattle.std.specs.Prelude.{ℕ, List}
+use Rattle.std.specs.Prelude.{ℕ, Bool, false, ◌&&◌, List, if◌then◌else◌}
 use Rattle.wc_buffers.specs.Calls.{EntryGroups}
 use Rattle.wc_ircmsg.specs.declared.message.Message.{Message}
 use Rattle.wc_irc.specs.declared.act.Act.{Act}
@@ -10,13 +10,13 @@ use Rattle.wc_irc_texts.specs.declared.kind.MessageKind.TheVariants.{TopicReply,
 use Rattle.wc_irc_texts.specs.declared.kind.MessageKind.TheVariants.{ModeReply, Privmsg, Notice, Ping}
 use Rattle.wc_irc_texts.specs.declared.kind.MessageKind.TheVariants.{Error, Invite, Other}
 use Rattle.wc_irc.specs.ChannelActs.{join_acts, part_acts, kick_acts, quit_acts}
-use Rattle.wc_irc.specs.ChannelStates.{after_join, after_leave, quit_by, after_nick}
+use Rattle.wc_irc.specs.ChannelStates.{after_join, after_leave, quit_by, after_nick, is_beyond}
 use Rattle.wc_irc.specs.Dates.{moment_of, dated_acts}
 use Rattle.wc_irc.specs.InviteActs.{invite_acts}
 use Rattle.wc_irc_texts.specs.Rows.{param, kind_of}
 use Rattle.wc_irc.specs.LoginActs.{login_acts, after_login}
 use Rattle.wc_irc.specs.Servers.{ServerState, after_welcome, after_taken, after_features}
-use Rattle.wc_irc.specs.Servers.{mask_after}
+use Rattle.wc_irc.specs.Servers.{mask_after, is_own}
 use Rattle.wc_irc.specs.TitleActs.{topic_acts, topic_reply_acts, names_end_acts, mode_reply_acts}
 use Rattle.wc_irc.specs.SpeechActs.{privmsg_acts}
 use Rattle.wc_irc.specs.RenameActs.{nick_acts}
@@ -69,8 +69,18 @@ after_kind s m Error = s
 after_kind s m Invite = s
 after_kind s m Other = after_login s m
 
+-- whether a message of a kind is about a channel that is one too many: the own JOIN, and the names
+abbrev pub is_too_many : ServerState → Message → MessageKind → Bool
+is_too_many s m Join = is_own s m.nick && is_beyond s (param 0 m)
+is_too_many s m Names = is_beyond s (param 2 m)
+is_too_many s m _ = false
+
+-- what is about a channel that is one too many is of no kind
+abbrev pub kind_within : ServerState → Message → MessageKind → MessageKind
+kind_within s m kind = if is_too_many s m kind then Other else kind
+
 abbrev pub kind_to : ServerState → Message → MessageKind
-kind_to s m = kind_of s.features.chan_types s.is_registered m
+kind_to s m = kind_within s m (kind_of s.features.chan_types s.is_registered m)
 
 abbrev pub acts_of_server : EntryGroups → ServerState → Message → List Act
 acts_of_server groups s m = dated_acts (moment_of s m) (acts_of_kind groups s m (kind_to s m))

@@ -1,16 +1,27 @@
 ghost use Rattle.std.specs.Prelude.{◌≡◌, position, IfOk, OnOk, OnErr};
 ghost use Rattle.wc_irc.specs.Channels.{is_channel_named, joined};
 ghost use Rattle.wc_irc.specs.ChannelStates.{with_nick, new_channel, entered, after_join};
-ghost use Rattle.wc_irc.specs.ChannelStates.{after_leave, quit_by};
+ghost use Rattle.wc_irc.specs.ChannelStates.{after_leave, quit_by, is_beyond};
 ghost use Rattle.wc_irc.specs.ServersSeen.{seen};
 
 use crate::channel::{Channel, channel_place, quit};
+use crate::channel_acts::channel_at;
 use crate::state::State;
 use std::alloc::Global;
 use wc_irc_nicks::Members;
 use wc_text::{NoMemory, Text};
 
+/// So many channels are joined at most.
+const MOST_CHANNELS: usize = 1024;
+
 impl State {
+    /// Whether a channel is one too many: it is not joined, and so many others are.
+    pub(crate) fn is_beyond(&self, name: &[u8]) -> bool
+        ensures { result ≡ is_beyond (seen self.now) name.now }
+    {
+        self.channels.len() >= MOST_CHANNELS && channel_at(self, name).is_none()
+    }
+
     /// The place of the joined channel of a name.
     pub(crate) fn place_of(&self, name: &[u8]) -> Option<usize>
         ensures { result ≡ position (is_channel_named self.now.features.case_map name.now)

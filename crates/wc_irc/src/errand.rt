@@ -8,7 +8,8 @@ ghost use Rattle.wc_irc.specs.CommandActs.{on_channel, to_target, target_in, tal
 ghost use Rattle.wc_irc.specs.LongTexts.{action};
 ghost use Rattle.wc_irc.specs.CommandActs.{reason_params, channel_in, is_joined, part_errand};
 ghost use Rattle.wc_irc.specs.CommandActs.{new_topic, is_sign, is_of_channel, first_word, own_modes};
-ghost use Rattle.wc_irc.specs.CommandActs.{mode_errand, said_errand, channel_errand, other_errand, errand_of};
+ghost use Rattle.wc_irc.specs.CommandActs.{mode_errand, said_errand, channel_errand, change_errand};
+ghost use Rattle.wc_irc.specs.CommandActs.{other_errand, errand_of};
 ghost use Rattle.wc_irc.specs.CommandSeen.{place_seen, errand_seen, link_seen};
 ghost use Rattle.wc_irc_words.specs.TypedSeen.{meaning};
 ghost use Rattle.wc_text.specs.Words.{words_of};
@@ -458,7 +459,7 @@ fn said_errand<'a>(
     }
 }
 
-/// What a command about a channel is for.
+/// What a command is for that comes into a channel, leaves it, or asks who is there.
 fn channel_errand<'a>(
     alloc: Global,
     link: Option<&State>,
@@ -471,10 +472,24 @@ fn channel_errand<'a>(
     match command {
         ServerCommand::Join(text) => Ok(Some(send_words(alloc, b"JOIN", *text)?)),
         ServerCommand::Part(text) => Ok(Some(part(alloc, link, *text, place)?)),
+        ServerCommand::Names => Ok(Some(names(alloc, place)?)),
+        _ => Ok(None),
+    }
+}
+
+/// What a command is for that changes a channel.
+fn change_errand<'a>(
+    alloc: Global,
+    place: Place<'_>,
+    command: &ServerCommand<'a>,
+) -> Result<Option<Errand<'a>>, NoMemory>
+    ensures { IfOk result (λ errand. option_map errand_seen errand
+        ≡ change_errand (place_seen place.entry) (meaning command.now)) }
+{
+    match command {
         ServerCommand::Topic(topic) => Ok(Some(set_topic(alloc, *topic, place)?)),
         ServerCommand::Kick { nick, reason } => Ok(Some(kick(alloc, *nick, *reason, place)?)),
         ServerCommand::Mode(text) => Ok(Some(mode(alloc, *text, place)?)),
-        ServerCommand::Names => Ok(Some(names(alloc, place)?)),
         _ => Ok(None),
     }
 }
@@ -512,6 +527,9 @@ pub(crate) fn errand_of<'a>(
         return Ok(Some(errand));
     }
     if let Some(errand) = channel_errand(alloc, link, place, command)? {
+        return Ok(Some(errand));
+    }
+    if let Some(errand) = change_errand(alloc, place, command)? {
         return Ok(Some(errand));
     }
     other_errand(alloc, place, command)

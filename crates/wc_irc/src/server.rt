@@ -1,4 +1,4 @@
-ghost use Rattle.std.specs.Prelude.{◌≡◌, ◌≢◌, Ok, Err, map, IfOk, IfErr, OnOk, OnErr};
+ghost use Rattle.std.specs.Prelude.{◌≡◌, ◌≢◌, ◌≤◌, Ok, Err, map, length, IfOk, IfErr, OnOk, OnErr};
 ghost use Rattle.wc_irc.specs.ChannelLaws.{HasChannelNames};
 ghost use Rattle.wc_irc.specs.Channels.{joined};
 ghost use Rattle.wc_irc.specs.LinkActs.{first_acts, after_connect, loss_acts, after_loss};
@@ -30,7 +30,7 @@ pub struct Server {
 }
 
 impl Model for Server {
-    ghost use Rattle.wc_irc.specs.ChannelLaws.{HasChannelNames};
+    ghost use Rattle.wc_irc.specs.ChannelLaws.{AreKept};
     ghost use Rattle.wc_irc.specs.Servers.{ServerState};
     ghost use Rattle.wc_irc.specs.ServersSeen.{seen};
 
@@ -38,7 +38,7 @@ impl Model for Server {
 
     ghost view = { λ a. seen a.state };
 
-    ghost invariant = { λ a. HasChannelNames (seen a.state) };
+    ghost invariant = { λ a. AreKept (seen a.state) };
 }
 
 impl Server {
@@ -92,11 +92,12 @@ impl Server {
         &self.state.features
     }
 
-    /// The joined channels in the order of joining, each with its nicks. Each has the name of a
-    /// channel where CHANTYPES is what the server told.
+    /// The joined channels in the order of joining, each with its nicks: at most 1,024. Each has the
+    /// name of a channel where CHANTYPES is what the server told.
     pub fn channels(&self) -> &[Channel]
         ensures channels { map joined result.now ≡ self.now.channels }
         ensures names { HasChannelNames self.now }
+        ensures few { length self.now.channels ≤ 1024 }
     {
         self.state.channels.as_slice()
     }
@@ -136,6 +137,9 @@ impl Server {
     /// QUIT; where it is the own one, a PART or KICK takes all of them out. A NICK keeps its place,
     /// and takes it out where the name is no nick or another one's. A MODE and a list of names (353)
     /// move nicks between the groups of PREFIX. What is said privately opens the buffer of its nick.
+    ///
+    /// While 1,024 channels are joined, the own JOIN of another one joins nothing: it is a line of the
+    /// server's own buffer, as any message that is not known, and so are that channel's names.
     ///
     /// Where the capability `server-time` stands, the lines have the moment that the message tells,
     /// and else none.

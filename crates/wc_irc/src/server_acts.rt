@@ -1,5 +1,5 @@
 ghost use Rattle.std.specs.Prelude.{◌≡◌, ◌++◌, unwrap_or, IfOk, OnOk, OnErr};
-ghost use Rattle.wc_irc.specs.ServerActs.{acts_of_kind, after_kind, kind_to};
+ghost use Rattle.wc_irc.specs.ServerActs.{acts_of_kind, after_kind, is_too_many, kind_within, kind_to};
 ghost use Rattle.wc_irc.specs.ServerActs.{acts_of_server, with_mask, after_server};
 ghost use Rattle.wc_irc.specs.Dates.{moment_of, dated_acts};
 ghost use Rattle.wc_irc.specs.Servers.{tells_mask, mask_after};
@@ -23,11 +23,33 @@ use wc_ircmsg::Message;
 use wc_text::{Items, NoMemory, Text};
 
 impl State {
+    /// Whether a message of a kind is about a channel that is one too many.
+    fn is_too_many(&self, m: &Message, kind: MessageKind) -> bool
+        ensures { result ≡ is_too_many (seen self.now) m.now kind }
+    {
+        match kind {
+            MessageKind::Join => self.is_own(m.nick.as_slice()) && self.is_beyond(param(m, 0)),
+            MessageKind::Names => self.is_beyond(param(m, 2)),
+            _ => false,
+        }
+    }
+
+    fn kind_within(&self, m: &Message, kind: MessageKind) -> MessageKind
+        ensures { result ≡ kind_within (seen self.now) m.now kind }
+    {
+        if self.is_too_many(m, kind) {
+            MessageKind::Other
+        } else {
+            kind
+        }
+    }
+
     /// What a message tells the server as it is.
     pub(crate) fn kind(&self, m: &Message) -> MessageKind
         ensures { result ≡ kind_to (seen self.now) m.now }
     {
-        kind_of(self.features.chan_types.as_slice(), self.is_registered, m)
+        let kind = kind_of(self.features.chan_types.as_slice(), self.is_registered, m);
+        self.kind_within(m, kind)
     }
 
     /// Takes in a message.

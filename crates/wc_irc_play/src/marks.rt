@@ -22,3 +22,8 @@ pub fn lengthened(alloc: Global, text: &str, count: u32) -> Result<String, Alloc
     }
     Ok(long)
 }
+
+/// A text with a number after it.
+pub fn numbered(alloc: Global, text: &str, number: u32) -> Result<String, AllocError> {
+    format!(in alloc; "{text}{number}")
+}

@@ -1,4 +1,4 @@
-use crate::marks::{lengthened, put_mark};
+use crate::marks::{lengthened, numbered, put_mark};
 use crate::nicks::nicks_answer;
 use crate::rows::rows_answer;
 use crate::server::Scene;
@@ -138,6 +138,24 @@ impl Player {
         Ok(())
     }
 
+    /// Writes the mark of the answers of a call that is made so often, with the number of the call
+    /// from 0 on after its text.
+    fn each(&mut self, alloc: Global, words: &str, out: &mut Sheet) -> Result<(), Wrong> {
+        let (count, rest) = cut_word(words);
+        let (call, rest) = cut_word(rest);
+        let Ok(count) = count.parse::<u32>() else {
+            return Err(Wrong::Number);
+        };
+        let mut whole = Sheet::new(alloc);
+        for number in 0..count {
+            let text = numbered(alloc, rest, number)?;
+            self.answer(alloc, call, text.as_str(), &mut whole)?;
+            whole.put("\n");
+        }
+        put_mark(out, whole.read());
+        Ok(())
+    }
+
     fn answer_or_mark(
         &mut self,
         alloc: Global,
@@ -145,10 +163,11 @@ impl Player {
         rest: &str,
         out: &mut Sheet,
     ) -> Result<(), Wrong> {
-        if call == "long" {
-            return self.long(alloc, rest, out);
+        match call {
+            "long" => self.long(alloc, rest, out),
+            "each" => self.each(alloc, rest, out),
+            _ => self.answer(alloc, call, rest, out),
         }
-        self.answer(alloc, call, rest, out)
     }
 
     /// Writes a line and its answer.

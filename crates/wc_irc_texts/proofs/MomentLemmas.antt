@@ -1,8 +1,8 @@
 -- The leap years before a year, counted by division.
-use Rattle.std.proofs.Common.{◌≡◌, ℕ, zero, suc, ◌+◌, ◌-◌, ◌*◌, ◌/◌, ◌%◌, ◌≤◌, eqb, Bool, true, false, cond, refl, ap, sym, ◌∙◌, subst, arith}
+use Rattle.std.proofs.Common.{◌≡◌, ℕ, zero, suc, ◌+◌, ◌-◌, ◌*◌, ◌/◌, ◌%◌, ◌≤◌, Bool, true, false, cond, refl, ap, sym, ◌∙◌, subst, arith}
 use Rattle.std.specs.Prelude.{not, ◌&&◌, ◌||◌, ◌==◌}
 use Rattle.std.proofs.lemmas.Bool.Decides.{nat_tests}
-use Rattle.wc_irc_texts.specs.Moments.{is_leap, year_days, days_of_years}
+use Rattle.wc_irc_texts.specs.Moments.{year_days, days_of_years}
 
 -- the leap years up to one year more
 step : (y : ℕ) (a b c : Bool) → (suc y % 4 == 0) ≡ a → (suc y % 100 == 0) ≡ b → (suc y % 400 == 0) ≡ c

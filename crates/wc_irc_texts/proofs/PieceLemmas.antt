@@ -1,11 +1,11 @@
 -- What commas part, piece by piece.
 use Rattle.std.proofs.Common.{◌≡◌, ℕ, suc, ◌+◌, ◌-◌, ◌≤◌, ◌<◌, Bool, true, false, cond, List, [], ◌∷◌, length, refl, ap, sym, ◌∙◌, arith, Option, Some, None}
-use Rattle.std.specs.Prelude.{◌&&◌, ◌||◌, ◌==◌, not, slice_index_or, IfSome, is_some}
+use Rattle.std.specs.Prelude.{◌||◌, ◌==◌, not, slice_index_or, IfSome, is_some}
 use Rattle.std.specs.Borrow.{Bor}
 use Rattle.std.specs.Option.{option_copied}
 use Rattle.std.specs.List.{onto_first, slice_split, list_all, list_any}
 use Rattle.std.proofs.lemmas.Bool.{and_parts, and_from}
-use Rattle.wc_text.specs.Splits.{before, onward, text_after, past, word_of, rest_of}
+use Rattle.wc_text.specs.Splits.{before, onward, text_after, past, word_of}
 use Rattle.wc_ircmsg.specs.Written.{ends_lines, is_one_line, needs_colon}
 use Rattle.wc_irc_texts.specs.Pieces.{pieces, pieces_left, is_bare, is_bare_left, length_left}
 use Rattle.wc_irc_texts.specs.Texts.{in_one_line}

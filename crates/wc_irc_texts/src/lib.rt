@@ -11,6 +11,7 @@ mod laws;
 mod line_text;
 mod listed;
 mod login_step;
+mod mode_kinds;
 mod modes;
 mod moment;
 mod names;

@@ -1,9 +1,11 @@
 ghost use Rattle.std.specs.Prelude.{◌≡◌, ◌++◌, ◌∷◌, true, drop, ℕ, List, IfOk, OnOk};
-ghost use Rattle.wc_irc_texts.specs.Modes.{has_letter, mode_list, takes_param, change_with, changes_from};
+ghost use Rattle.wc_irc_texts.specs.declared.features.Features.{Features};
+ghost use Rattle.wc_irc_texts.specs.Modes.{has_letter, mode_list, change_with, changes_from};
 ghost use Rattle.wc_irc_texts.specs.Modes.{mode_changes};
-ghost use Rattle.wc_irc_texts.specs.ModesSeen.{changes_in, changes_found};
+ghost use Rattle.wc_irc_texts.specs.ModesSeen.{changes_in, changes_found, AreKinds};
 
 use crate::features::Features;
+use crate::mode_kinds::ModeKinds;
 use std::alloc::Global;
 use wc_text::{NoMemory, Text, split_once};
 
@@ -24,7 +26,7 @@ pub(crate) fn has_letter(letter: u8, modes: &[u8]) -> bool
 }
 
 /// One of the lists of CHANMODES.
-fn mode_list(number: usize, value: &[u8]) -> &[u8]
+pub(crate) fn mode_list(number: usize, value: &[u8]) -> &[u8]
     ensures { result.now ≡ mode_list number value.now }
 {
     let mut left = Some(value);
@@ -40,29 +42,6 @@ fn mode_list(number: usize, value: &[u8]) -> &[u8]
     &[]
 }
 
-fn is_in_list(features: &Features, number: usize, letter: u8) -> bool
-    ensures { result ≡ has_letter letter (mode_list number features.now.chan_modes) }
-{
-    has_letter(letter, mode_list(number, features.chan_modes.as_slice()))
-}
-
-fn is_prefix(features: &Features, letter: u8) -> bool
-    ensures { result ≡ has_letter letter features.now.prefixes.modes }
-{
-    has_letter(letter, features.prefixes.modes.as_slice())
-}
-
-/// Whether a mode takes a parameter: one of PREFIX and of the first two lists of CHANMODES always,
-/// and one of the third where it is set.
-fn takes_param(features: &Features, adds: bool, letter: u8) -> bool
-    ensures { result ≡ takes_param features.now adds letter }
-{
-    is_prefix(features, letter)
-        || is_in_list(features, 0, letter)
-        || is_in_list(features, 1, letter)
-        || adds && is_in_list(features, 2, letter)
-}
-
 /// What a MODE sets: whether `+` or `-` was before, and the parameters that are still to be taken.
 #[derive(Drop)]
 struct ModeWalk<'a> {
@@ -72,9 +51,9 @@ struct ModeWalk<'a> {
 
 impl<'a> ModeWalk<'a> {
     /// The change of a letter with the next parameter, where it is one of PREFIX.
-    fn change(&mut self, features: &Features, letter: u8) -> Option<ModeChange<'a>>
-        ensures change { changes_found result
-            ≡ change_with features.now self.old.adds letter self.old.params.now }
+    fn change(&mut self, kinds: &ModeKinds, letter: u8) -> Option<ModeChange<'a>>
+        ensures change { (f : Features) → AreKinds f kinds.now → changes_found result
+            ≡ change_with f self.old.adds letter self.old.params.now }
         ensures adds { self.new.adds ≡ self.old.adds }
         ensures params { self.new.params.now ≡ drop 1 self.old.params.now }
     {
@@ -82,7 +61,7 @@ impl<'a> ModeWalk<'a> {
             return None;
         };
         self.params = others;
-        if !is_prefix(features, letter) {
+        if !kinds.is_prefix(letter) {
             return None;
         }
         Some(ModeChange {
@@ -93,11 +72,11 @@ impl<'a> ModeWalk<'a> {
     }
 
     /// The change of a letter, where it is one of PREFIX and has a parameter.
-    fn step(&mut self, features: &Features, letter: u8) -> Option<ModeChange<'a>>
-        ensures { (letters : List ℕ) →
-            changes_from features.now self.old.adds (letter ∷ letters) self.old.params.now
+    fn step(&mut self, kinds: &ModeKinds, letter: u8) -> Option<ModeChange<'a>>
+        ensures { (f : Features) → AreKinds f kinds.now → (letters : List ℕ) →
+            changes_from f self.old.adds (letter ∷ letters) self.old.params.now
             ≡ changes_found result
-            ++ changes_from features.now self.new.adds letters self.new.params.now }
+            ++ changes_from f self.new.adds letters self.new.params.now }
     {
         if letter == b'+' {
             self.adds = true;
@@ -107,10 +86,10 @@ impl<'a> ModeWalk<'a> {
             self.adds = false;
             return None;
         }
-        if !takes_param(features, self.adds, letter) {
+        if !kinds.takes_param(self.adds, letter) {
             return None;
         }
-        self.change(features, letter)
+        self.change(kinds, letter)
     }
 }
 
@@ -137,10 +116,11 @@ fn changes_of<'a>(
     ensures { IfOk result (λ changes. changes_in changes.items
         ≡ changes_from features.now true letters.now params.now) }
 {
+    let kinds = ModeKinds::of(features);
     let mut changes = Vec::new(alloc);
     let mut walk = ModeWalk { adds: true, params };
     for letter in letters {
-        let change = walk.step(features, *letter);
+        let change = walk.step(&kinds, *letter);
         put_change(&mut changes, change)?;
     }
     Ok(changes)

@@ -1,4 +1,4 @@
-use Rattle.std.proofs.Common.{refl, codes, true, false, arith, ◌∙◌}
+use Rattle.std.proofs.Common.{refl, codes, false, arith, ◌∙◌}
 use Rattle.wc_irc.proofs.LongLemmas.{parts_sendable}
 use Rattle.wc_irc.proofs.long_texts.put_long_said.Goals as goal
 

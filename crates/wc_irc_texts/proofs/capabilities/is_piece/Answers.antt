@@ -1,5 +1,4 @@
 use Rattle.std.proofs.Common.{◌≡◌, ◌∷◌, true, false, ap, sym, ◌∙◌}
-use Rattle.std.specs.Prelude.{bytes_eq}
 use Rattle.wc_irc_texts.specs.Pieces.{pieces_left}
 use Rattle.wc_irc_texts.proofs.CapabilityLemmas.{piece_hit, piece_miss}
 use Rattle.wc_irc_texts.proofs.PieceLemmas.{pieces_split}
