@@ -18,12 +18,12 @@ use Rattle.wc_eval.specs.Kinds.{commas_of}
 use Rattle.wc_eval.specs.Arguments.{arguments_of, arguments_by}
 use Rattle.wc_eval.specs.Values.{Makes}
 use Rattle.wc_eval.specs.Names.{Facts}
-use Rattle.wc_eval.specs.Progress.{Progress, Answer, Evaluator, then_do, answer_of, if_short, Gives}
+use Rattle.wc_eval.specs.Progress.{Progress, Answer, Evaluator, then_do, answer_of, if_fits, Gives}
 use Rattle.wc_eval.specs.Conditions.{Test}
-use Rattle.wc_eval.specs.LongValues.{GivesLong}
+use Rattle.wc_eval.specs.LongValues.{GivesLong, Fits}
 use Rattle.wc_eval.specs.Meaning.{values_by, call_value, after_call, call_by, if_by, if_value, kind_value}
 use Rattle.wc_eval.proofs.StepLemmas.{agrees_earlier}
-use Rattle.wc_eval.proofs.MeaningLemmas.{short_is, long_is}
+use Rattle.wc_eval.proofs.MeaningLemmas.{long_fits_not, fits_same}
 use Rattle.wc_eval.proofs.PieceLemmas.{pieces_text}
 use Rattle.wc_eval.proofs.PartLemmas.{blocks_written}
 use Rattle.wc_eval.proofs.Utf8Lemmas.{texts_utf8}
@@ -49,7 +49,7 @@ module _ (v : VerdictsView) (a b : Progress) where
   pub long_from : (f : Oracle → Progress → Answer (List ℕ)) (result : Result (List ℕ) Stop) →
       Gives f v a b result → GivesLong f v a b result
   long_from f (Ok value) gives = gives
-  long_from f (Err Over) gives = λ oracle agrees. ap if_short (gives oracle agrees)
+  long_from f (Err Over) gives = λ oracle agrees. ap if_fits (gives oracle agrees)
   long_from f (Err NoMemory) gives = tt
 
   pub long_same : (f g : Oracle → Progress → Answer (List ℕ)) →
@@ -57,7 +57,7 @@ module _ (v : VerdictsView) (a b : Progress) where
       (result : Result (List ℕ) Stop) → GivesLong f v a b result → GivesLong g v a b result
   long_same f g same (Ok value) gives = λ oracle agrees. sym (same oracle a) ∙ gives oracle agrees
   long_same f g same (Err Over) gives = λ oracle agrees.
-      ap if_short (sym (same oracle a)) ∙ gives oracle agrees
+      ap if_fits (sym (same oracle a)) ∙ gives oracle agrees
   long_same f g same (Err NoMemory) gives = tt
 
   pub long_error : (f : Oracle → Progress → Answer (List ℕ)) (stop : Stop) (result : Result (List ℕ) Stop) →
@@ -66,20 +66,23 @@ module _ (v : VerdictsView) (a b : Progress) where
   long_error f stop (Err e) is gives = subst (λ s. GivesLong f v a b (Err s)) (sym is) gives
 
   -- the value is looked at
-  pub short_from : (f : Oracle → Progress → Answer (List ℕ)) (value : List ℕ)
-      (result : Result (List ℕ) Stop) → GivesLong f v a b (Ok value) → Makes value result →
-      OnOk result (length value ≤ 65536) →
-      Gives (λ oracle progress. if_short (f oracle progress)) v a b result
-  short_from f value (Ok made) gives is short = λ oracle agrees. ap if_short (gives oracle agrees)
-      ∙ short_is value b short ∙ ap (λ l. answer_of l b) (sym is)
-  short_from f value (Err Over) gives long short = λ oracle agrees. ap if_short (gives oracle agrees)
-      ∙ long_is value b long
-  short_from f value (Err NoMemory) gives long short = tt
+  pub fits_from : (f : Oracle → Progress → Answer (List ℕ)) (value : List ℕ) (c : Progress)
+      (result : Result (List ℕ) Stop) → GivesLong f v a b (Ok value) → Fits value b c result →
+      Gives (λ oracle progress. if_fits (f oracle progress)) v a c result
+  fits_from f value c (Ok made) gives fits = λ oracle agrees. ap if_fits (gives oracle agrees) ∙ fits
+  fits_from f value c (Err Over) gives fits = λ oracle agrees. ap if_fits (gives oracle agrees) ∙ fits.1
+  fits_from f value c (Err NoMemory) gives fits = tt
 
-  pub short_stops : (f : Oracle → Progress → Answer (List ℕ)) (stop : Stop) → GivesLong f v a b (Err stop) →
-      Gives (λ oracle progress. if_short (f oracle progress)) v a b (Err stop)
-  short_stops f Over gives = gives
-  short_stops f NoMemory gives = tt
+  pub fits_stops : (f : Oracle → Progress → Answer (List ℕ)) (stop : Stop) → GivesLong f v a b (Err stop) →
+      Gives (λ oracle progress. if_fits (f oracle progress)) v a b (Err stop)
+  fits_stops f Over gives = gives
+  fits_stops f NoMemory gives = tt
+
+-- a value that fits is the one that was looked at
+pub fits_utf8 : (value : List ℕ) (a b : Progress) (result : Result (List ℕ) Stop) → Fits value a b result →
+    IsUtf8 value → IfOk result IsUtf8
+fits_utf8 value a b (Ok made) fits utf8 = subst IsUtf8 (fits_same value a b made fits) utf8
+fits_utf8 value a b (Err stop) fits utf8 = tt
 
 pub makes_utf8 : (value : List ℕ) (result : Result (List ℕ) Stop) → Makes value result → IsUtf8 value →
     IfOk result IsUtf8
@@ -195,7 +198,7 @@ module _ (scope : Facts) (evaluate : Oracle → Evaluator) (k : Kind) (n : ℕ) 
 
     pub call_stops : (stop : Stop) → Gives (λ oracle. values_by (evaluate oracle) texts) v a b (Err stop) →
         GivesLong called v a b (Err stop)
-    call_stops Over gives = λ oracle agrees. ap if_short (sym (there oracle a)
+    call_stops Over gives = λ oracle agrees. ap if_fits (sym (there oracle a)
         ∙ ap (λ o. then_do o (valued oracle)) (gives oracle agrees))
     call_stops NoMemory gives = tt
 
@@ -207,9 +210,9 @@ module _ (scope : Facts) (evaluate : Oracle → Evaluator) (k : Kind) (n : ℕ) 
         ∙ ap (λ o. then_do o (valued oracle)) (gives oracle agrees)
         ∙ ap (λ l. answer_of l (after_call k values b)) (sym is)
         ∙ ap (λ p. answer_of made p) (sym kept)
-    call_makes values c (Err Over) gives long kept = λ oracle agrees. ap if_short (sym (there oracle a)
+    call_makes values c (Err Over) gives long kept = λ oracle agrees. ap if_fits (sym (there oracle a)
         ∙ ap (λ o. then_do o (valued oracle)) (gives oracle agrees))
-        ∙ long_is (call_value scope b k values) (after_call k values b) long
+        ∙ long_fits_not (call_value scope b k values) (after_call k values b) long
     call_makes values c (Err NoMemory) gives long kept = tt
 
 -- ---- UTF-8

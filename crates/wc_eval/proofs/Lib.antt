@@ -21,6 +21,7 @@ pub mod TurnLemmas
 pub mod KeptLemmas
 pub mod EndLemmas
 pub mod MeaningLemmas
+pub mod BoundLemmas
 pub mod KindValues
 pub mod CharacterLemmas
 pub mod ArgumentLemmas

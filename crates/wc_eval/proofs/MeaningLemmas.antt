@@ -1,7 +1,8 @@
 -- The value of a text along its forms, and what is left of it on the way.
-use Rattle.std.proofs.Common.{◌≡◌, ℕ, zero, suc, ◌+◌, ◌<◌, ◌≤◌, ◌⊎◌, true, false, List, [], ◌∷◌, ◌++◌, length, drop, get_or}
+use Rattle.std.proofs.Common.{◌≡◌, ℕ, zero, suc, ◌+◌, ◌<◌, ◌≤◌, ◌⊎◌, Bool, true, false, List, [], ◌∷◌, ◌++◌, length, drop, get_or}
 use Rattle.std.proofs.Common.{Option, Some, None, Result, Ok, Err, refl, ap, sym, ◌∙◌, append-nil, append_assoc, length-append, arith}
-use Rattle.std.specs.Prelude.{nat_le, nat_lt, All}
+use Rattle.std.specs.Prelude.{nat_le, nat_lt, All, if◌then◌else◌}
+use Rattle.std.proofs.lemmas.Option.{none-some, same_Some}
 use Rattle.std.specs.Str.{IsUtf8}
 use Rattle.std.proofs.lemmas.List.{drop_more, drop_all}
 use Rattle.std.proofs.lemmas.List.Elements.{All-head, All-tail}
@@ -18,7 +19,7 @@ use Rattle.wc_eval.specs.declared.kind.Kind.{Kind}
 use Rattle.wc_eval.specs.Kinds.{kind_of}
 use Rattle.wc_eval.specs.Values.{longest}
 use Rattle.wc_eval.specs.Names.{Facts}
-use Rattle.wc_eval.specs.Progress.{Progress, Answer, Evaluator, then_do, answer_of, if_short, counted, most_forms, Gives}
+use Rattle.wc_eval.specs.Progress.{Progress, Answer, Evaluator, then_do, answer_of, if_short, if_fits, value_fits, names_fit, most_made, with_made, counted, most_forms, Gives}
 use Rattle.wc_eval.specs.Meaning.{put_before, pieces_value, values_by, kind_value, evaluator, form_at}
 use Rattle.wc_eval.proofs.StepLemmas.{agrees_earlier, Comes}
 
@@ -36,6 +37,19 @@ short_is text p short = rw (fits text short) refl
 
 pub long_is : (text : List ℕ) (p : Progress) → 65536 < length text → if_short (answer_of text p) ≡ None
 long_is text p long = rw (fits_not text long) refl
+
+-- a value that is too long does not fit
+pub long_fits_not : (text : List ℕ) (p : Progress) → 65536 < length text → if_fits (answer_of text p) ≡ None
+long_fits_not text p long = rw (fits_not text long) refl
+
+pub fits_same : (text : List ℕ) (p q : Progress) (made : List ℕ) → if_fits (answer_of text p) ≡ Some (made, q) →
+    text ≡ made
+fits_same text p q made = by (value_fits (length text) p)
+  where
+    by : (b : Bool) → ◌≡◌ {A = Answer (List ℕ)} (if b then Some (text, with_made (length text) p) else None)
+        (Some (made, q)) → text ≡ made
+    by true e = ap (λ f. f.0) (same_Some _ _ e)
+    by false e = absurd (none-some _ e)
 
 too_long : (front : List ℕ) (o : Answer (List ℕ)) → 65536 < length front → if_short (put_before front o) ≡ None
 too_long front None long = refl
@@ -171,13 +185,13 @@ module _ (scope : Facts) (oracle : Oracle) where
   evaluator_is (suc n) text p = ap if_short (sym (put_none (pieces_value (form_at scope oracle (suc n)) (pieces_of text) p)))
 
   pub form_is : (n m : ℕ) (inside : List ℕ) (p : Progress) → m + 1 ≡ n → p.forms < 65536 →
-      form_at scope oracle n inside p ≡ if_short (kind_value scope oracle (evaluator scope oracle m)
+      form_at scope oracle n inside p ≡ if_fits (kind_value scope oracle (evaluator scope oracle m)
       (kind_of inside).0 (kind_of inside).1 (counted p))
   unfolding form_at
   form_is zero m inside p e few = absurd (omega (arith, e))
   form_is (suc n) m inside p e few =
       let same : n ≡ m = omega (arith, e) in
-      rw (few_forms p.forms few) (ap (λ k. if_short (kind_value scope oracle (evaluator scope oracle k) (kind_of inside).0
+      rw (few_forms p.forms few) (ap (λ k. if_fits (kind_value scope oracle (evaluator scope oracle k) (kind_of inside).0
       (kind_of inside).1 (counted p))) same)
 
   form_over : (n : ℕ) (inside : List ℕ) (p : Progress) → (n ≡ 0) ⊎ (65536 ≤ p.forms) →
@@ -205,14 +219,14 @@ module _ (scope inner : Facts) (s : inner ≡ scope) (n m : ℕ) (inside text : 
     (v : VerdictsView) (p a b : Progress)
     (e : m + 1 ≡ n) (few : p.forms < 65536) (is : a ≡ counted p) (cut : (k, text) ≡ kind_of inside) where
   same : (oracle : Oracle) → form_at scope oracle n inside p
-      ≡ if_short (kind_value inner oracle (evaluator inner oracle m) k text a)
+      ≡ if_fits (kind_value inner oracle (evaluator inner oracle m) k text a)
   same oracle = form_is scope oracle n m inside p e few
-      ∙ ap (λ (f : Kind × List ℕ). if_short (kind_value scope oracle (evaluator scope oracle m) f.0 f.1
+      ∙ ap (λ (f : Kind × List ℕ). if_fits (kind_value scope oracle (evaluator scope oracle m) f.0 f.1
       (counted p))) (sym cut)
-      ∙ ap (λ q. if_short (kind_value scope oracle (evaluator scope oracle m) k text q)) (sym is)
-      ∙ ap (λ f. if_short (kind_value f oracle (evaluator f oracle m) k text a)) (sym s)
+      ∙ ap (λ q. if_fits (kind_value scope oracle (evaluator scope oracle m) k text q)) (sym is)
+      ∙ ap (λ f. if_fits (kind_value f oracle (evaluator f oracle m) k text a)) (sym s)
 
-  pub form_value : (result : Result (List ℕ) Stop) → Gives (λ oracle progress. if_short
+  pub form_value : (result : Result (List ℕ) Stop) → Gives (λ oracle progress. if_fits
       (kind_value inner oracle (evaluator inner oracle m) k text progress)) v a b result →
       Gives (λ oracle. form_at scope oracle n inside) v p b result
   form_value (Ok value) gives = λ oracle agrees. same oracle ∙ gives oracle agrees

@@ -1,5 +1,5 @@
 -- Verdicts as they are kept, each under the bytes of its text.
-use Rattle.std.proofs.Common.{◌^◌, ◌<◌, length, Bor, Result, Ok, Err, IsOk, OnOk, option_copied, ◌≡◌, ◌≤◌, ◌+◌, ℕ, suc, Bool, true, false, List, [], ◌∷◌, ◌++◌, Option, Some, None, option_map, refl, ap, sym, subst, ◌∙◌, bytes_eq, is_some, IfSome, arith}
+use Rattle.std.proofs.Common.{◌^◌, ◌<◌, length, Bor, Result, Ok, Err, IsOk, OnOk, option_copied, ◌≡◌, ◌≢◌, ◌≤◌, ◌+◌, ℕ, suc, Bool, true, false, List, [], ◌∷◌, ◌++◌, Option, Some, None, option_map, refl, ap, sym, subst, ◌∙◌, bytes_eq, is_some, IfSome, arith}
 use Rattle.std.proofs.lemmas.Option.{none-some, same_Some}
 use Rattle.std.proofs.lemmas.Bool.{false≢true}
 use Rattle.std.proofs.lemmas.List.{length-map, length-append}
@@ -13,7 +13,9 @@ use Rattle.wc_eval.specs.declared.verdict.Verdict.{Verdict}
 use Rattle.wc_eval.specs.declared.verdict.Verdict.TheVariants.{Fine, Syntax, Other}
 use Rattle.wc_eval.specs.declared.verdict.Judgement.{Judgement}
 use Rattle.wc_eval.specs.declared.verdict.Judgement.TheVariants as judged
-use Rattle.wc_eval.specs.Verdicts.{VerdictsView, Judges, Stay, IsCaused, verdict_on, verdict_in, others_in, one_if_other, AreOnce, is_fine, is_fine_by}
+use Rattle.wc_eval.specs.Verdicts.{VerdictsView, Judges, Stay, OnlyOn, IsCaused, verdict_on, verdict_in, others_in, one_if_other, AreOnce, is_fine, is_fine_by}
+use Rattle.regex.specs.Failures.{IsPattern}
+use Rattle.wc_eval.specs.Matching.{folding_config}
 use Rattle.wc_eval.specs.Built.{Kept, AreBuilt, IsJudgementOf, IsBuiltOf, rows_of, verdict_of, regex_of}
 
 abbrev pub Rows : Type 0
@@ -49,6 +51,19 @@ pub regex_there : (j : Judgement) → is_some (regex_of j) ≡ is_fine (verdict_
 regex_there (judged.Built r) = refl
 regex_there judged.Syntax = refl
 regex_there judged.Other = refl
+
+-- a text that is refused as `Syntax` is no pattern
+refused_syntax : (text : List ℕ) (j : Judgement) → IsJudgementOf text j → verdict_of j ≡ Syntax →
+    IsPattern folding_config text → ⊥
+refused_syntax text (judged.Built r) built e = absurd (fine_syntax e)
+  where
+    fine_syntax : Fine ≡ Syntax → ⊥
+    fine_syntax e = false≢true (sym (ap is_fine e))
+refused_syntax text judged.Syntax none e = none
+refused_syntax text judged.Other built e = absurd (other_syntax e)
+  where
+    other_syntax : Other ≡ Syntax → ⊥
+    other_syntax e = let one : 1 ≡ 0 = ap one_if_other e in omega (arith, one)
 
 -- ---- one more at the end
 
@@ -89,13 +104,13 @@ verdict_stays (r ∷ rows) row text = by_bool (bytes_eq text r.0) _
     (λ t. rw t refl)
     (λ t. rw t (verdict_stays rows row text))
 
--- a text without a verdict that is not the new one has none
-none_more : (rows : Rows) (row : List ℕ × Verdict) (text : List ℕ) → verdict_in text rows ≡ None →
-    bytes_eq text row.0 ≡ false → verdict_in text (rows ++ row ∷ []) ≡ None
-none_more [] row text none other = rw other refl
-none_more (r ∷ rows) row text none other = by_bool (bytes_eq text r.0) _
-    (λ t. absurd (none-some _ (sym (rw t at none))))
-    (λ t. rw t (none_more rows row text (rw t at none) other))
+-- the verdict on another text than the new one
+verdict_other : (rows : Rows) (row : List ℕ × Verdict) (text : List ℕ) → bytes_eq text row.0 ≡ false →
+    verdict_in text (rows ++ row ∷ []) ≡ verdict_in text rows
+verdict_other [] row text other = rw other refl
+verdict_other (r ∷ rows) row text other = by_bool (bytes_eq text r.0) _
+    (λ t. rw t refl)
+    (λ t. rw t (verdict_other rows row text other))
 
 other_text : (rows : Rows) (r : List ℕ × Verdict) (text : List ℕ) → verdict_in text (r ∷ rows) ≡ None → bytes_eq r.0 text ≡ false
 other_text rows r text none = by_bool (bytes_eq r.0 text) _
@@ -112,7 +127,7 @@ pub once_push : (rows : Rows) (text : List ℕ) (v : Verdict) → AreOnce rows �
     AreOnce (rows ++ (text, v) ∷ [])
 once_push [] text v once none = (refl, tt)
 once_push (r ∷ rows) text v once none =
-    (none_more rows (text, v) r.0 once.0 (other_text rows r text none), once_push rows text v once.1 (none_after rows r text none))
+    (verdict_other rows (text, v) r.0 (other_text rows r text none) ∙ once.0, once_push rows text v once.1 (none_after rows r text none))
 
 -- ---- what the look-ups answer
 
@@ -121,6 +136,14 @@ pub got_verdict : (text key : List ℕ) (es : Kept) (o : Option Judgement) (foun
     found ≡ verdict_in text (rows_of es)
 got_verdict text key es o found is same e =
     e ∙ ap (option_map verdict_of) (is ∙ ap (λ t. lookup (λ k. bytes_eq t k.items) es) same) ∙ found_verdict text es
+
+pub got_refused : (text key : List ℕ) (es : Kept) (j : Judgement) (v : Verdict) →
+    Some j ≡ lookup (λ k. bytes_eq key k.items) es → key ≡ text → AreBuilt es → v ≡ verdict_of j →
+    Some v ≡ Some Syntax → IsPattern folding_config text → ⊥
+got_refused text key es j v is same built e syntax =
+    refused_syntax text j
+    (found_built text es j built (sym (is ∙ ap (λ t. lookup (λ k. bytes_eq t k.items) es) same)))
+    (sym e ∙ same_Some _ _ syntax)
 
 pub lent_built : (text key : List ℕ) (es : Kept) (j : Judgement) (r : Option (Bor Regex)) →
     Some j ≡ lookup (λ k. bytes_eq key k.items) es → key ≡ text → AreBuilt es → option_copied r ≡ regex_of j →
@@ -178,6 +201,14 @@ stay_push old new row is later = record {
   rows = λ text. subst (λ rows. IfSome (verdict_in text old.rows) (λ v. verdict_in text rows ≡ Some v)) (sym is) (verdict_stays old.rows row text);
   others = later;
 }
+
+pub only_push : (old new : VerdictsView) (key text : List ℕ) (v : Verdict) → key ≡ text →
+    new.rows ≡ old.rows ++ (key, v) ∷ [] → OnlyOn text old new
+only_push old new key text v is pushed other differs =
+    let apart : bytes_eq other key ≡ false = by_bool (bytes_eq other key) _
+    (λ t. absurd (differs ((bytes_decides other key).0 t ∙ is)))
+    (λ t. t) in
+    ap (verdict_in other) pushed ∙ verdict_other old.rows (key, v) other apart
 
 pub judges_new : (old new : VerdictsView) (key text : List ℕ) (v : Verdict) → key ≡ text → verdict_on text old ≡ None →
     new.rows ≡ old.rows ++ (key, v) ∷ [] → old.others ≤ new.others → IsCaused old.others new.others text v →

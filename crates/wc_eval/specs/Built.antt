@@ -4,6 +4,7 @@ use Rattle.std.specs.declared.alloc.Global.{Global}
 use Rattle.std.specs.declared.vec.Vec.{Vec}
 use Rattle.regex.specs.Strings.{regex_source, regex_config, IsReadFromSource}
 use Rattle.regex.specs.declared.string.regex.Regex.{Regex}
+use Rattle.regex.specs.Failures.{IsPattern}
 use Rattle.wc_eval.specs.Matching.{folding_config}
 use Rattle.wc_eval.specs.declared.verdict.Verdict.{Verdict}
 use Rattle.wc_eval.specs.declared.verdict.Verdict.TheVariants.{Fine, Syntax, Other}
@@ -16,10 +17,11 @@ pub record IsBuiltOf (text : List ℕ) (r : Regex) : Type 0 where
   pub config : regex_config r ≡ folding_config
   pub read : IsReadFromSource r
 
--- a regex that is kept is that of its text
+-- a regex that is kept is that of its text, and the grammar reads no pattern in a text that is
+-- refused as `Syntax`
 abbrev pub IsJudgementOf : List ℕ → Judgement → Type 0
 IsJudgementOf text (judged.Built r) = IsBuiltOf text r
-IsJudgementOf text judged.Syntax = Unit {0}
+IsJudgementOf text judged.Syntax = IsPattern folding_config text → ⊥
 IsJudgementOf text judged.Other = Unit {0}
 
 abbrev pub verdict_of : Judgement → Verdict

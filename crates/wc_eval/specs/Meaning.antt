@@ -14,7 +14,7 @@ use Rattle.wc_eval.specs.Values.{repeat_value, hide_value}
 use Rattle.wc_eval.specs.Cuts.{calc_value, length_value, cut_value, split_value}
 use Rattle.wc_eval.specs.Names.{Facts, or_empty, name_value, group_value}
 use Rattle.wc_eval.specs.Progress.{Progress, fresh, Answer, then_do, answer_of, value_or, Evaluator}
-use Rattle.wc_eval.specs.Progress.{if_short, with_count, define}
+use Rattle.wc_eval.specs.Progress.{if_short, if_fits, with_count, define}
 use Rattle.wc_eval.specs.Conditions.{Test, condition_by}
 
 -- ---- texts
@@ -109,7 +109,7 @@ kind_value scope oracle evaluate k text progress =
 
 -- a form, where texts in it are evaluated so
 abbrev pub form_by : Facts → Oracle → Evaluator → Evaluator
-form_by scope oracle evaluate = with_count (λ text progress. if_short
+form_by scope oracle evaluate = with_count (λ text progress. if_fits
     (kind_value scope oracle evaluate (kind_of text).0 (kind_of text).1 progress))
 
 -- more forms inside one another than may be

@@ -1,19 +1,24 @@
 -- What an evaluation keeps while it goes on, and how its steps follow one another.
-use Rattle.std.specs.Prelude.{◌≡◌, ℕ, ◌+◌, nat_lt, nat_le, List, [], ◌∷◌, length, bytes_eq}
-use Rattle.std.specs.Prelude.{if◌then◌else◌}
+use Rattle.std.specs.Prelude.{◌≡◌, ◌≤◌, ℕ, ◌+◌, nat_lt, nat_le, List, [], ◌∷◌, length, bytes_eq}
+use Rattle.std.specs.Prelude.{if◌then◌else◌, Bool, ◌&&◌}
 use Rattle.std.specs.Prelude.{Option, Some, None, Result, Ok, Err}
 use Rattle.wc_eval.specs.declared.values.Stop.{Stop}
 use Rattle.wc_eval.specs.declared.values.Stop.TheVariants.{Over, NoMemory}
 use Rattle.wc_eval.specs.Values.{longest}
 use Rattle.wc_eval.specs.Verdicts.{Oracle, Agrees, VerdictsView}
 
--- The names that were defined, each with its value, and how many forms were evaluated.
+-- The names that were defined, each with its value, how many forms were evaluated, and sums of bytes:
+-- of the names that were defined, of the values that they got, and of the values of forms. A name that
+-- is defined again counts again.
 pub record Progress : Type 0 where
   pub names : List (List ℕ × List ℕ)
   pub forms : ℕ
+  pub named : ℕ
+  pub defined : ℕ
+  pub made : ℕ
 
 abbrev pub fresh : Progress
-fresh = record { names = []; forms = 0 }
+fresh = record { names = []; forms = 0; named = 0; defined = 0; made = 0 }
 
 -- a value and what is kept after it, or nothing where a limit is passed
 abbrev pub Answer : Type 0 → Type 0
@@ -44,6 +49,39 @@ abbrev pub if_short : Answer (List ℕ) → Answer (List ℕ)
 if_short None = None
 if_short (Some found) = if nat_le (length found.0) longest then Some found else None
 
+-- the most bytes of all names that are defined, and of all their values
+abbrev pub most_defined : ℕ
+most_defined = 1048576
+
+-- the most bytes of the values of all forms
+abbrev pub most_made : ℕ
+most_made = 16777216
+
+-- whether the names fit that were defined, and their values
+abbrev pub names_fit : Progress → Bool
+names_fit progress = nat_le progress.named most_defined && nat_le progress.defined most_defined
+
+-- whether a form may have a value of so many bytes after this
+abbrev pub value_fits : ℕ → Progress → Bool
+value_fits bytes progress = nat_le bytes longest
+    && (names_fit progress && nat_le (progress.made + bytes) most_made)
+
+-- the sums are within their limits
+pub record SumsFit (progress : Progress) : Type 0 where
+  pub named : progress.named ≤ most_defined
+  pub defined : progress.defined ≤ most_defined
+  pub made : progress.made ≤ most_made
+
+-- the value of a form counts
+abbrev pub with_made : ℕ → Progress → Progress
+with_made bytes progress = record progress { made = progress.made + bytes }
+
+-- a form has a value only within the limits
+abbrev pub if_fits : Answer (List ℕ) → Answer (List ℕ)
+if_fits None = None
+if_fits (Some found) = if value_fits (length found.0) found.1
+    then Some (found.0, with_made (length found.0) found.1) else None
+
 -- one form more
 abbrev pub counted : Progress → Progress
 counted progress = record progress { forms = progress.forms + 1 }
@@ -62,7 +100,11 @@ with_name name value (e ∷ es) = if bytes_eq name e.0 then (e.0, value) ∷ es
     else e ∷ with_name name value es
 
 abbrev pub define : List ℕ → List ℕ → Progress → Progress
-define name value progress = record progress { names = with_name name value progress.names }
+define name value progress = record progress {
+  names = with_name name value progress.names;
+  named = progress.named + length name;
+  defined = progress.defined + length value;
+}
 
 -- ---- what the code answers
 

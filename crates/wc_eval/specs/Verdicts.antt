@@ -1,5 +1,5 @@
 -- The verdicts on patterns, in the order in which they were given.
-use Rattle.std.specs.Prelude.{◌≡◌, ℕ, ◌+◌, ◌-◌, ◌^◌, ◌≤◌, min, Bool}
+use Rattle.std.specs.Prelude.{◌≡◌, ◌≢◌, ℕ, ◌+◌, ◌-◌, ◌^◌, ◌≤◌, min, Bool}
 use Rattle.std.specs.Prelude.{true, false, List, [], ◌∷◌}
 use Rattle.std.specs.Prelude.{Option, None, Some, IfSome, bytes_eq, if◌then◌else◌}
 use Rattle.regex.specs.Failures.{IsPattern}
@@ -66,6 +66,11 @@ IsCaused before now pattern Other = Rose before now
 pub record Stay (old new : VerdictsView) : Type 0 where
   pub rows : (text : List ℕ) → IfSome (verdict_on text old) (λ v. verdict_on text new ≡ Some v)
   pub others : old.others ≤ new.others
+
+-- No text but this one got a verdict, or another one.
+abbrev pub OnlyOn : List ℕ → VerdictsView → VerdictsView → Type 0
+OnlyOn pattern old new = (text : List ℕ) → text ≢ pattern →
+    verdict_on text new ≡ verdict_on text old
 
 -- A text is judged: a verdict that is there answers, and nothing changes; else one more is given.
 pub record Judges (pattern : List ℕ) (old new : VerdictsView) (verdict : Verdict) : Type 0 where

@@ -1,7 +1,7 @@
 ghost use Rattle.std.specs.Prelude.{◌≡◌, ◌<◌, ◌≤◌, not, length, IsTrue, IfOk, IfSome, Some};
 ghost use Rattle.std.specs.Prelude.{option_map};
 ghost use Rattle.std.specs.Str.{IsUtf8};
-ghost use Rattle.wc_eval.specs.Verdicts.{Oracle, Agrees, Stay, is_known_fine};
+ghost use Rattle.wc_eval.specs.Verdicts.{Oracle, Agrees, Stay, OnlyOn, is_known_fine};
 ghost use Rattle.wc_eval.specs.Matching.{is_found};
 ghost use Rattle.wc_eval.specs.Signs.{equals_sign, bang_sign, order_sign};
 ghost use Rattle.wc_eval.specs.Comparisons.{sign_at, order_of, finds, holds_by};
@@ -145,6 +145,7 @@ fn finds(
     ensures found { IfOk result (λ found. (oracle : Oracle) → Agrees oracle verdicts.new →
         found ≡ finds oracle text.now pattern.now) }
     ensures stay { Stay verdicts.old verdicts.new }
+    ensures only { OnlyOn pattern.now verdicts.old verdicts.new }
 {
     if !verdicts.judge(pattern)? {
         return Ok(false);
@@ -173,7 +174,8 @@ fn found_by(
 }
 
 /// Whether a comparison of two values holds. A text that is no pattern is found in none, whatever
-/// the verdict on it comes from; each verdict stays.
+/// the verdict on it comes from; each verdict stays. A comparison by pattern judges its right side
+/// alone, and another judges nothing.
 ///
 /// Refused for want of memory alone.
 pub fn compare(
@@ -188,6 +190,8 @@ pub fn compare(
     ensures holds { IfOk result (λ holds. (oracle : Oracle) → Agrees oracle verdicts.new →
         holds ≡ holds_by oracle comparison left.now right.now) }
     ensures stay { Stay verdicts.old verdicts.new }
+    ensures only { OnlyOn right.now verdicts.old verdicts.new }
+    ensures same { IsTrue (not (is_by_pattern comparison)) → verdicts.new ≡ verdicts.old }
 {
     match comparison {
         Comparison::Found => finds(alloc, verdicts, left, right),

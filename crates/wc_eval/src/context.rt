@@ -1,6 +1,7 @@
 ghost use Rattle.std.specs.Prelude.{◌≡◌, ◌+◌, ◌≤◌, ◌<◌, ◌⊎◌, All, IfOk, OnOk, OnErr, IfErr};
 ghost use Rattle.std.specs.Str.{IsUtf8};
-ghost use Rattle.wc_eval.specs.Verdicts.{Stay};
+ghost use Rattle.wc_eval.specs.Verdicts.{Oracle, Agrees, Stay};
+ghost use Rattle.wc_eval.specs.Comparisons.{holds_by};
 ghost use Rattle.wc_eval.specs.Names.{facts_of, AreTexts};
 ghost use Rattle.wc_eval.specs.Kinds.{commas_of};
 ghost use Rattle.wc_eval.specs.Arguments.{arguments_of, lent_texts};
@@ -14,20 +15,37 @@ use crate::arguments::arguments;
 use crate::blanks::{digit, is_true, without_blanks};
 use crate::branches::{branch, split_at_block};
 use crate::calls::call_value;
-use crate::comparison::compare;
+use crate::comparison::{Comparison, compare};
 use crate::forms::cut_to_form;
 use crate::kept::Kept;
 use crate::kind::Kind;
 use crate::parts::{Sides, cut_comparison, opens_at_most, whole_group};
 use crate::scope::Scope;
 use crate::turns::{Ranks, Turn};
-use crate::values::{Stop, append, if_short};
+use crate::values::{Stop, append};
 use crate::verdicts::Verdicts;
 use std::alloc::Global;
-use wc_text::{Items, Text};
+use wc_text::{Items, NoMemory, Text};
 
 /// The most forms that may be inside one another.
 const MOST_LEVELS: u32 = 32;
+
+/// Whether a comparison holds of two sides that have their values.
+fn compare_sides(
+    alloc: Global,
+    verdicts: &mut Verdicts,
+    comparison: Comparison,
+    left: &Text,
+    right: &Text,
+) -> Result<bool, NoMemory>
+    requires left { IsUtf8 left.now }
+    requires right { IsUtf8 right.now }
+    ensures holds { IfOk result (λ holds. (oracle : Oracle) → Agrees oracle verdicts.new →
+        holds ≡ holds_by oracle comparison left.now right.now) }
+    ensures stay { Stay verdicts.old verdicts.new }
+{
+    compare(alloc, verdicts, comparison, left, right)
+}
 
 /// The most parentheses that may be open at one place of a condition.
 const MOST_GROUPS: u32 = 32;
@@ -114,10 +132,10 @@ impl<'a> Context<'a> {
         let inner = self.enter(kept)?;
         let (kind, text) = Kind::cut(inside);
         let value = inner.form_of_kind(verdicts, kept, kind, text)?;
-        if_short(value)
+        kept.count_value(value)
     }
 
-    /// The value of a form of this kind, whose text comes after its word. It may be too long.
+    /// The value of a form of this kind, whose text comes after its word. It may pass a limit.
     #[cycle(eval)]
     fn form_of_kind(
         self,
@@ -313,7 +331,7 @@ impl<'a> Context<'a> {
         let is_text = sides.comparison.has_text_sides();
         let left = self.side(verdicts, kept, groups, is_text, without_blanks(sides.left))?;
         let right = self.side(verdicts, kept, groups, is_text, without_blanks(sides.right))?;
-        Ok(compare(self.alloc, verdicts, sides.comparison, &left, &right)?)
+        Ok(compare_sides(self.alloc, verdicts, sides.comparison, &left, &right)?)
     }
 
     /// What a side of a comparison is worth: of one group in parentheses what the condition in it

@@ -13,8 +13,9 @@ use std::alloc::Global;
 use wc_text::{NoMemory, Text};
 
 /// The value of a text: what is outside `${` and its `}` stays, and each form has its value. It is
-/// empty where more than 32 forms are inside one another, more than 65,536 are evaluated, or a value
-/// is longer than 65,536 bytes. Refused for want of memory alone.
+/// empty where more than 32 forms are inside one another, more than 65,536 are evaluated, a value is
+/// longer than 65,536 bytes, the values of all forms have more than 16,777,216 bytes, or the names
+/// that are defined have more than 1,048,576, or their values. Refused for want of memory alone.
 pub fn eval(
     alloc: Global,
     scope: Scope<'_>,

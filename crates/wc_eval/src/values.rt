@@ -8,7 +8,7 @@ use std::alloc::Global;
 use wc_text::{NoMemory, Text, read_i64};
 
 /// The most bytes of a value.
-const LONGEST: usize = 65_536;
+pub(crate) const LONGEST: usize = 65_536;
 
 /// Why an evaluation stops.
 #[derive(Clone, Copy, PartialEq, Eq)]
@@ -45,17 +45,6 @@ pub(crate) fn append(value: &mut Text, bytes: &[u8]) -> Result<(), Stop>
     }
     value.append(bytes)?;
     Ok(())
-}
-
-/// The value, unless it is too long.
-pub(crate) fn if_short(value: Text) -> Result<Text, Stop>
-    ensures made { Makes value result }
-    ensures short { OnOk result (length value ≤ 65536) }
-{
-    if value.as_slice().len() > LONGEST {
-        return Err(Stop::Over);
-    }
-    Ok(value)
 }
 
 /// A text so many times, unless that is too long.

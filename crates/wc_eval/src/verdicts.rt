@@ -1,8 +1,10 @@
-ghost use Rattle.std.specs.Prelude.{◌≡◌, ◌<◌, ◌≤◌, ◌++◌, ◌∷◌, [], None, IfOk, IfSome, OnErr};
+ghost use Rattle.std.specs.Prelude.{◌≡◌, ◌<◌, ◌≤◌, ◌++◌, ◌∷◌, [], Some, None, IfOk, IfSome, OnErr};
 ghost use Rattle.std.specs.Prelude.{is_some, length};
 ghost use Rattle.std.specs.Str.{IsUtf8};
 ghost use Rattle.wc_eval.specs.Verdicts.{verdict_on, is_known_fine, is_fine, others_in, AreOnce};
-ghost use Rattle.wc_eval.specs.Verdicts.{IsCaused, Judges, verdict_in};
+ghost use Rattle.wc_eval.specs.Verdicts.{IsCaused, Judges, OnlyOn, verdict_in};
+ghost use Rattle.wc_eval.specs.Matching.{folding_config};
+ghost use Rattle.regex.specs.Failures.{IsPattern};
 ghost use Rattle.indexmap.specs.IndexMap.{spare};
 ghost use Rattle.wc_eval.specs.declared.verdict.Verdict.{Verdict};
 ghost use Rattle.wc_eval.specs.Built.{IsBuiltOf, IsJudgementOf, verdict_of, rows_of};
@@ -78,9 +80,11 @@ impl Verdicts {
         self.compiler.others()
     }
 
-    /// The verdict on a text, if it was judged.
+    /// The verdict on a text, if it was judged. `Syntax` is one only where the grammar reads no
+    /// pattern in the text.
     pub fn verdict(&self, pattern: &Text) -> Option<Verdict>
-        ensures { result ≡ verdict_on pattern.now self.now }
+        ensures value { result ≡ verdict_on pattern.now self.now }
+        ensures syntax { result ≡ Some Verdict.Syntax → IsPattern folding_config pattern.now → ⊥ }
     {
         match self.judged.get(pattern.as_slice()) {
             Some(judgement) => Some(judgement.verdict()),
@@ -100,11 +104,15 @@ impl Verdicts {
     }
 
     /// Whether the text is a pattern. A new verdict is false only where the grammar reads no
-    /// pattern in the text, or `others` rose.
+    /// pattern in the text, or `others` rose. No other text gets a verdict. Refused for want of
+    /// memory alone.
     pub fn judge(&mut self, pattern: &Text) -> Result<bool, NoMemory>
         requires { IsUtf8 pattern.now }
         ensures judges { IfOk result (λ fine. (verdict : Verdict)
             × Judges pattern.now self.old self.new verdict × (fine ≡ is_fine verdict)) }
+        ensures syntax { IfOk result (λ _. verdict_on pattern.now self.new ≡ Some Verdict.Syntax →
+            IsPattern folding_config pattern.now → ⊥) }
+        ensures only { OnlyOn pattern.now self.old self.new }
         ensures err { OnErr result (self.new ≡ self.old) }
     {
         if let Some(verdict) = self.verdict(pattern) {
@@ -120,6 +128,7 @@ impl Verdicts {
         requires utf8 { IsUtf8 pattern.now }
         requires new { verdict_on pattern.now self.old ≡ None }
         ensures judges { IfOk result (Judges pattern.now self.old self.new) }
+        ensures only { OnlyOn pattern.now self.old self.new }
         ensures err { OnErr result (self.new ≡ self.old) }
     {
         let key = pattern.as_slice().to_vec(self.alloc)?;

@@ -18,7 +18,7 @@ use Rattle.wc_eval.proofs.MeaningLemmas.{text_begin, text_end, text_over, form_s
 use Rattle.wc_eval.proofs.MeaningLemmas.{form_enters, form_value, values_begin, values_end, values_stop, values_next}
 use Rattle.wc_eval.proofs.MeaningLemmas.{lent_at, lent_none, lent_utf8}
 use Rattle.wc_eval.specs.Values.{Makes}
-use Rattle.wc_eval.proofs.KindValues.{long_from, long_same, long_error, short_from, short_stops, makes_utf8}
+use Rattle.wc_eval.proofs.KindValues.{long_from, long_same, long_error, fits_from, fits_stops, fits_utf8}
 use Rattle.wc_eval.proofs.KindValues.{kind_calls, if_digit, if_taken, call_lacks, call_stops}
 use Rattle.wc_eval.proofs.KindValues.{call_makes, branch_utf8, if_utf8, arguments_utf8}
 use Rattle.wc_eval.proofs.EndLemmas.{condition_over, condition_few}
@@ -186,7 +186,7 @@ form-returns-in_err-value-clause-gives t c =
     c.cut-kind.result.1.now c.cut-kind.result.0 made.new.verdicts c.args.kept.now c.enter.new.kept
     made.new.kept c.in_ok-inner.ensures.ok.1 c.in_ok-inner.ensures.few c.in_ok-inner.ensures.ok.2
     c.cut-kind.ensures (Err stop)
-    (short_stops made.new.verdicts c.enter.new.kept made.new.kept (λ oracle. kind_value (facts_of inner.scope) oracle
+    (fits_stops made.new.verdicts c.enter.new.kept made.new.kept (λ oracle. kind_value (facts_of inner.scope) oracle
     (evaluator (facts_of inner.scope) oracle inner.levels) c.cut-kind.result.0
     c.cut-kind.result.1.now) stop
     c.in_err-value.ensures.gives))
@@ -198,17 +198,18 @@ form-returns-clause-gives t c =
     form_value (facts_of c.args.self.scope) (facts_of inner.scope)
     (ap facts_of c.in_ok-inner.ensures.ok.0) c.args.self.levels inner.levels c.args.inside.now
     c.cut-kind.result.1.now c.cut-kind.result.0 made.new.verdicts c.args.kept.now c.enter.new.kept
-    made.new.kept c.in_ok-inner.ensures.ok.1 c.in_ok-inner.ensures.few c.in_ok-inner.ensures.ok.2
-    c.cut-kind.ensures c.if_short.result
-    (short_from made.new.verdicts c.enter.new.kept made.new.kept (λ oracle. kind_value (facts_of inner.scope) oracle
+    c.count_value.new.self c.in_ok-inner.ensures.ok.1 c.in_ok-inner.ensures.few c.in_ok-inner.ensures.ok.2
+    c.cut-kind.ensures c.count_value.result
+    (fits_from made.new.verdicts c.enter.new.kept made.new.kept (λ oracle. kind_value (facts_of inner.scope) oracle
     (evaluator (facts_of inner.scope) oracle inner.levels) c.cut-kind.result.0
-    c.cut-kind.result.1.now) c.in_ok-value.value
-    c.if_short.result c.in_ok-value.ensures.gives c.if_short.ensures.made c.if_short.ensures.short)
+    c.cut-kind.result.1.now) c.in_ok-value.value c.count_value.new.self
+    c.count_value.result c.in_ok-value.ensures.gives c.count_value.ensures.fits)
 
 pub form-returns-clause-utf8 : goal.form-returns-clause-utf8
 form-returns-clause-utf8 t c =
-    makes_utf8 c.in_ok-value.value c.if_short.result c.if_short.ensures.made
-    c.in_ok-value.ensures.utf8
+    let made = c.form_of_kind in
+    fits_utf8 c.in_ok-value.value made.new.kept c.count_value.new.self c.count_value.result
+    c.count_value.ensures.fits c.in_ok-value.ensures.utf8
 
 -- ---- a kind
 

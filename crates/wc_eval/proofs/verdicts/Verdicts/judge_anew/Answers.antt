@@ -1,7 +1,7 @@
 use Rattle.std.proofs.Common.{rules, ◌≡◌, ◌<◌, ◌^◌, ◌++◌, ◌∷◌, [], None, ap, sym, subst, ◌∙◌, length}
 use Rattle.wc_eval.specs.Verdicts.{verdict_on, verdict_in, AreOnce}
 use Rattle.wc_eval.specs.Built.{rows_of, verdict_of, IsJudgementOf}
-use Rattle.wc_eval.proofs.VerdictLemmas.{built_push, once_push, others_kept, rows_push, judges_new}
+use Rattle.wc_eval.proofs.VerdictLemmas.{built_push, once_push, others_kept, rows_push, judges_new, only_push}
 use Rattle.wc_eval.proofs.verdicts.Verdicts.judge_anew.Goals as goal
 
 module _ (c : goal.After-put-count) where
@@ -37,3 +37,11 @@ returns-clause-judges c =
     rw (c.verdict-verdict.ensures, ← c.self.view_is)
     (judges_new _ _ c.in_ok-key.key.items c.args.pattern.now (verdict_of j) (same c) (none c)
     (ap rows_of (entries c) ∙ rows_push es c.in_ok-key.key j) c.build.ensures.later c.in_ok-judgement.ensures.caused)
+
+pub returns-clause-only : goal.returns-clause-only
+returns-clause-only c =
+    let es = c.self.inside.judged.entries in
+    rw (← c.self.view_is)
+    (only_push (record { rows = rows_of es; others = c.self.inside.compiler.others })
+    (record { rows = rows_of c.put-count.new.judged.entries; others = c.build.new.compiler.others }) c.in_ok-key.key.items c.args.pattern.now (verdict_of c.in_ok-judgement.judgement) (same c)
+    (ap rows_of (entries c) ∙ rows_push es c.in_ok-key.key c.in_ok-judgement.judgement))

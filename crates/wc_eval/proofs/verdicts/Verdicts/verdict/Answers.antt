@@ -1,14 +1,19 @@
 use Rattle.std.proofs.Common.{◌∙◌, ap, refl, Some, None}
 use Rattle.wc_eval.specs.Verdicts.{verdict_on}
-use Rattle.wc_eval.proofs.VerdictLemmas.{got_verdict}
+use Rattle.wc_eval.proofs.VerdictLemmas.{got_verdict, got_refused}
 use Rattle.wc_eval.proofs.verdicts.Verdicts.verdict.Goals as goal
 
-pub returns-in-Some : goal.returns-in-Some
-returns-in-Some c =
+pub returns-in-Some-clause-value : goal.returns-in-Some-clause-value
+returns-in-Some-clause-value c =
     got_verdict c.args.pattern.now _ _ _ _ c.in-Some.ensures.value c.as_slice.ensures (ap Some c.verdict.ensures)
     ∙ ap (verdict_on c.args.pattern.now) c.self.view_is
 
-pub returns-in-None : goal.returns-in-None
-returns-in-None c =
+pub returns-in-None-clause-value : goal.returns-in-None-clause-value
+returns-in-None-clause-value c =
     got_verdict c.args.pattern.now _ _ None None c.in-None.ensures.value c.as_slice.ensures refl
     ∙ ap (verdict_on c.args.pattern.now) c.self.view_is
+
+pub returns-in-Some-clause-syntax : goal.returns-in-Some-clause-syntax
+returns-in-Some-clause-syntax c =
+    got_refused c.args.pattern.now _ _ _ _ c.in-Some.ensures.value c.as_slice.ensures c.self.invariant.0
+    c.verdict.ensures
