@@ -1,15 +1,15 @@
-ghost use Rattle.std.specs.Prelude.{◌≡◌, ◌<◌, ◌≤◌, ◌∷◌, [], length, map, take, IfOk, IfErr};
+ghost use Rattle.std.specs.Prelude.{◌≡◌, ◌<◌, ◌≤◌, ◌||◌, length, map, take, IfOk, IfErr};
 ghost use Rattle.std.specs.IoError.{raw_os_error};
-ghost use Rattle.std.specs.Net.Addr.{ipv4_octets, IsV4And};
-ghost use Rattle.std.specs.Net.Socket.{socket_ip, socket_port};
 ghost use Rattle.mio.specs.Events.{items, capacity as events_capacity};
 ghost use Rattle.wc_outside.specs.Happenings.{IsReadWithin, IsPutWithin};
 ghost use Rattle.wc_edge.specs.Misses.{miss_of};
 ghost use Rattle.wc_edge.specs.Rows.{number_of, is_there, IsAscending, SourcesReported};
-ghost use Rattle.wc_edge.specs.Sources.{sources_of};
+ghost use Rattle.wc_edge.specs.Sources.{sources_of, is_uneven, tells_to_read};
 
+use crate::addresses::{far_address, local_address};
 use crate::links::SLOTS;
 use crate::misses::{Miss, miss_of};
+use crate::moment::moment;
 use crate::report::report;
 use crate::rows::Row;
 use mio::event::Event;
@@ -17,7 +17,7 @@ use mio::net::{TcpListener, TcpStream};
 use mio::{Events, Interest, Poll};
 use std::alloc::Global;
 use std::io::{self, ErrorKind, Read, Write};
-use std::net::{Ipv4Addr, Net, SocketAddr};
+use std::net::Net;
 use std::random::RandomSource;
 use std::rt::Clock;
 use std::time::Duration;
@@ -44,7 +44,10 @@ pub(crate) struct Peer {
 
 impl Peer {
     /// Notes what an event says of reading.
-    pub(crate) fn note(&mut self, event: &Event) {
+    pub(crate) fn note(&mut self, event: &Event)
+        ensures uneven { self.new.uneven ≡ self.old.uneven || is_uneven event.now }
+        ensures readable { self.new.readable ≡ self.old.readable || tells_to_read event.now }
+    {
         let uneven = event.is_read_closed() || event.is_error() || event.is_priority();
         self.uneven = self.uneven || uneven;
         self.readable = self.readable || uneven || event.is_readable();
@@ -66,23 +69,6 @@ pub(crate) struct Streams<'a, R: Net + Clock + RandomSource> {
     peers: Vec<Peer>,
     ghost room: { events_capacity events ≡ 64 },
     ghost fetched: { length (items events) ≤ 64 },
-}
-
-/// The moment of a clock, in milliseconds since 1970; 0 where it is set to a time before.
-fn moment<R: Clock>(rt: &R) -> io::Result<u64> {
-    match rt.since_1970() {
-        Ok(since) => Ok(u64::try_from(since.as_millis()).unwrap_or(u64::MAX)),
-        Err(error) if error.kind() == ErrorKind::InvalidData => Ok(0),
-        Err(error) => Err(error),
-    }
-}
-
-/// The address of a listener at this port, which nobody reaches from another computer: 127.0.0.1.
-fn local_address(port: u16) -> SocketAddr
-    ensures ip { IsV4And (socket_ip result) (λ ip. ipv4_octets ip ≡ 127 ∷ 0 ∷ 0 ∷ 1 ∷ []) }
-    ensures port { socket_port result ≡ port }
-{
-    SocketAddr::from((Ipv4Addr::LOCALHOST, port))
 }
 
 impl<'a, R: Net + Clock + RandomSource> Streams<'a, R> {
@@ -168,14 +154,17 @@ impl<'a, R: Net + Clock + RandomSource> Streams<'a, R> {
     }
 
     /// Closes the connections that wait, up to 512. Where more may wait the system tells of them
-    /// once more.
-    pub(crate) fn refuse(&mut self) -> io::Result<()> {
+    /// once more. It fails only where the listener does.
+    pub(crate) fn refuse(&mut self) -> io::Result<()>
+        ensures { IfErr result (λ error. miss_of (raw_os_error error) ≡ Miss.Fault) }
+    {
         for _ in 0..SLOTS {
             if self.next_stream()?.is_none() {
                 return Ok(());
             }
         }
-        self.renew()
+        self.untold = self.renew().is_err();
+        Ok(())
     }
 
     /// Keeps a stream under this link, and has the system report both of its directions.
@@ -194,25 +183,32 @@ impl<'a, R: Net + Clock + RandomSource> Streams<'a, R> {
         Ok(())
     }
 
-    /// Keeps the next connection under this link, and gives its nonce. One for whose events the
-    /// system has no room is closed.
-    pub(crate) fn accept(&mut self, link: LinkId) -> io::Result<Option<[u8; 16]>> {
+    /// Keeps a connection that was accepted under this link, and gives its nonce.
+    fn admit(&mut self, stream: TcpStream, link: LinkId) -> io::Result<[u8; 16]> {
+        let mut nonce = [0u8; 16];
+        self.rt.fill_bytes(&mut nonce)?;
+        self.keep(stream, link)?;
+        Ok(nonce)
+    }
+
+    /// Keeps the next connection under this link, and gives its nonce. One for which the system has
+    /// no nonce, or no room for its events, is closed. It fails only where the listener does.
+    pub(crate) fn accept(&mut self, link: LinkId) -> io::Result<Option<[u8; 16]>>
+        ensures { IfErr result (λ error. miss_of (raw_os_error error) ≡ Miss.Fault) }
+    {
         let Some(stream) = self.next_stream()? else {
             return Ok(None);
         };
-        let mut nonce = [0u8; 16];
-        self.rt.fill_bytes(&mut nonce)?;
-        if self.keep(stream, link).is_err() {
+        let Ok(nonce) = self.admit(stream, link) else {
             self.untold = true;
             return Ok(None);
-        }
+        };
         Ok(Some(nonce))
     }
 
     /// Begins a connection, and keeps it under this link.
     pub(crate) fn connect(&mut self, link: LinkId, to: Address) -> io::Result<()> {
-        let address = SocketAddr::from((Ipv4Addr::from(to.ip), to.port));
-        let stream = TcpStream::connect(self.rt, address)?;
+        let stream = TcpStream::connect(self.rt, far_address(to))?;
         self.keep(stream, link)
     }
 
