@@ -28,6 +28,7 @@ pub mod StartLemmas
 pub mod EvalLemmas
 pub mod MessageLemmas
 pub mod NamesLaw
+pub mod FormLemmas
 pub mod NewsLemmas
 pub mod FilterLemmas
 pub mod OptionLemmas

@@ -10,7 +10,8 @@ use Rattle.wc_irc_words.specs.declared.everyday.Everyday.TheVariants as word
 use Rattle.wc_irc_words.specs.Everyday.{all_everyday, everyday_named, is_everyday, is_who}
 use Rattle.wc_irc_words.specs.Typed.{ServerCommand, Bids, command_of, is_called}
 use Rattle.wc_core.specs.Typed.{TypedCommand, command, news_command, option_command, unknown_command, input_command, hotlist_command}
-use Rattle.wc_core.specs.CommandNames.{core_text, server_text, is_unknown, is_known, is_named}
+use Rattle.wc_core.specs.Forms.{core_text, server_text}
+use Rattle.wc_core.specs.CommandNames.{is_unknown, is_known, is_named}
 
 -- ---- commands that servers know
 
@@ -95,7 +96,8 @@ for_core name =
     known (bytes_eq name (codes "close")) _ _ _ refl (
     known (bytes_eq name (codes "quit")) _ _ _ refl (
     known (bytes_eq name (codes "eval")) _ _ _ refl (
-    known (bytes_eq name (codes "filter")) _ _ _ refl (for_news name))))))
+    known (bytes_eq name (codes "filter")) _ _ _ refl (
+    known (bytes_eq name (codes "help")) _ _ _ refl (for_news name)))))))
 
 pub known_named : (name : List ℕ) → is_known name ≡ is_named name
 known_named name = λ i. for_core name i || for_servers name i

@@ -1,5 +1,5 @@
 -- What is typed is text, and how its lines are parted.
-use Rattle.std.proofs.Common.{◌≡◌, ℕ, List, [], ◌∷◌, ◌++◌, refl, ap, sym, subst, ◌∙◌, Bool, true, false, cond, eqb, Option, Some, None, codes, lit<, append-nil, append_assoc, arith, nat_lt, ◌&&◌, ◌-◌, ◌^◌, min, length, drop, filter, All}
+use Rattle.std.proofs.Common.{◌≡◌, ℕ, List, [], ◌∷◌, ◌++◌, refl, ap, sym, subst, ◌∙◌, Bool, true, false, cond, eqb, Option, Some, None, codes, lit<, append-nil, append_assoc, arith, nat_lt, ◌&&◌, ◌-◌, ◌^◌, min, length, drop, filter, find, All}
 use Rattle.std.proofs.lemmas.Bool.{false≢true}
 use Rattle.std.proofs.lemmas.Bool.Decides.{nat_tests, Decides-eqb}
 use Rattle.std.proofs.lemmas.Str.{IsUtf8-nil, IsUtf8-append}
@@ -24,7 +24,8 @@ use Rattle.wc_core.specs.declared.typed_filter.FilterChange.TheVariants as filte
 use Rattle.wc_filters.specs.declared.switch.Switch.{Switch}
 use Rattle.wc_filters.specs.declared.switch.Switch.TheVariants.{Enable, Disable, Toggle}
 use Rattle.wc_core.specs.Step.{other_of}
-use Rattle.wc_core.specs.Typed.{TypedCommand, Nothing, Quits, Refused, Others, Prints, Adds, Closes, Merges, Names, Changes, Sets, Unsets, no_text_here, wrong_arguments, unknown_command, print_unless_empty, print_words, tags_of, is_first, second_of, after_second, print_tagged, print_on, print_command, wrong_buffer, one_word, without_words, some_text, moves_to, close_command, starts, set_property, buffer_word, buffer_command, quit_command, set_option, set_command, unset_command, option_command, command, slash_command, typed_line, lines_parted, lines_of_text, Switches, switch_command, input_command, hotlist_value, hotlist_command, news_command, UsesHotlist, UsesFilters, Saves, save_command, close_here, wrong_filter, filter_with, add_filter, one_filter, switch_filters, filter_word, filter_command, Evaluates, eval_text, eval_printed, eval_command, evaluation_of}
+use Rattle.wc_core.specs.Typed.{TypedCommand, Nothing, Quits, Refused, Others, Prints, Adds, Closes, Merges, Names, Changes, Sets, Unsets, no_text_here, wrong_arguments, unknown_command, print_unless_empty, print_words, tags_of, is_first, second_of, after_second, print_tagged, print_on, print_command, wrong_buffer, one_word, without_words, some_text, moves_to, close_command, starts, set_property, buffer_word, buffer_command, quit_command, set_option, set_command, unset_command, option_command, command, slash_command, typed_line, lines_parted, lines_of_text, Switches, switch_command, input_command, hotlist_value, hotlist_command, news_command, UsesHotlist, UsesFilters, Saves, save_command, close_here, wrong_filter, filter_with, add_filter, one_filter, switch_filters, filter_word, filter_command, Evaluates, help_with, help_on, help_command, eval_text, eval_printed, eval_command, evaluation_of}
+use Rattle.wc_core.specs.Forms.{core_text, server_text, names_told, command_forms, without_slash, is_form_of, form_named}
 use Rattle.wc_core.specs.TypedSeen.{lines_left, LeftUtf8}
 use Rattle.wc_core.specs.declared.typed_eval.EvalUse.{EvalUse}
 use Rattle.wc_core.specs.declared.typed_hotlist.HotlistUse.TheVariants as hotlist
@@ -294,6 +295,43 @@ eval_command_text : (text : List ℕ) → IsUtf8 text → TypedUtf8 (eval_comman
 eval_command_text text utf8 =
     typed_if (is_first (codes "-n") text) (eval_printed (rest_of text)) (eval_text eval.Run text) (eval_printed_text (rest_of text) (word_text text utf8).1) (eval_use_text eval.Run text utf8)
 
+-- ---- `/help`
+
+abbrev are_ascii : List (List ℕ) → Bool
+are_ascii [] = true
+are_ascii (text ∷ texts) = all_ascii text && are_ascii texts
+
+-- a form that was found is text
+found_text : (name : List ℕ) (p : List ℕ → Bool) (forms : List (List ℕ)) → IsUtf8 name → are_ascii forms ≡ true → TypedUtf8 (help_with name (find p forms))
+found_text name p [] n e = unknown_text name n
+found_text name p (form ∷ forms) n e = by (p form) (all_ascii form) refl e (found_text name p forms n) where
+  by : (t a : Bool) → all_ascii form ≡ a → (a && are_ascii forms) ≡ true → (are_ascii forms ≡ true → TypedUtf8 (help_with name (find p forms))) → TypedUtf8 (help_with name (cond t (Some form) (find p forms)))
+  by true true is e others = record { tags = All-nil IsUtf8; prefix = IsUtf8-nil; message = ascii_text form is }
+  by false true is e others = others e
+  by t false is e others = absurd (false≢true e)
+
+help_on_text : (name : List ℕ) → IsUtf8 name → TypedUtf8 (help_on name)
+unfolding form_named command_forms
+help_on_text name n = found_text name (is_form_of name) command_forms n refl
+
+without_slash_text : (word : List ℕ) → IsUtf8 word → IsUtf8 (without_slash word)
+without_slash_text [] utf8 = utf8
+without_slash_text (b ∷ text) utf8 = by (eqb b 47) refl where
+  by : (t : Bool) → eqb b 47 ≡ t → IsUtf8 (cond t text (b ∷ text))
+  by true e = let same : b ≡ 47 = grind (arith, nat_tests) in (cut_text [] b text (omega (arith, same)) utf8).1
+  by false e = utf8
+
+names_text : IsUtf8 names_told
+unfolding core_text server_text
+names_text = ascii_text names_told refl
+
+help_text : (text : List ℕ) → IsUtf8 text → TypedUtf8 (help_command text)
+help_text [] utf8 = record { tags = All-nil IsUtf8; prefix = IsUtf8-nil; message = names_text }
+help_text (b ∷ text) utf8 =
+    let name = without_slash (word_of (b ∷ text)) in
+    typed_if (nat_lt 0 (length (rest_of (b ∷ text)))) (wrong_arguments (codes "help")) (help_on name) (wrong_text (codes "help") (ascii_text (codes "help") refl))
+    (help_on_text name (without_slash_text (word_of (b ∷ text)) (word_text (b ∷ text) utf8).0))
+
 command_text : (name text : List ℕ) → IsUtf8 name → IsUtf8 text → TypedUtf8 (command name text)
 command_text name text n t =
     typed_if (bytes_eq name (codes "print")) _ _ (print_text text t)
@@ -301,7 +339,8 @@ command_text name text n t =
     (typed_if (bytes_eq name (codes "close")) _ _ (close_here_text text)
     (typed_if (bytes_eq name (codes "quit")) _ _ (quit_text text)
     (typed_if (bytes_eq name (codes "eval")) _ _ (eval_command_text text t)
-    (typed_if (bytes_eq name (codes "filter")) _ _ (filter_text text t) (news_text name text n t))))))
+    (typed_if (bytes_eq name (codes "filter")) _ _ (filter_text text t)
+    (typed_if (bytes_eq name (codes "help")) _ _ (help_text text t) (news_text name text n t)))))))
 
 slashed_text : (text : List ℕ) → IsUtf8 text → TypedUtf8 (slash_command text)
 slashed_text [] utf8 = command_text [] [] IsUtf8-nil IsUtf8-nil

@@ -3,8 +3,8 @@ use Rattle.std.specs.Prelude.{List}
 use Rattle.wc_hotlist.specs.declared.row.HotRow.{HotRow}
 use Rattle.wc_options.specs.Options.{OptionsValue}
 use Rattle.wc_session.specs.RequestContext.{Context}
-use Rattle.wc_core.specs.CommandNames.{command_names}
 use Rattle.wc_core.specs.CoreView.{CoreView}
+use Rattle.wc_core.specs.Forms.{command_names}
 use Rattle.wc_core.specs.State.{State}
 
 -- the names of the commands are the same at all times

@@ -8,6 +8,7 @@ pub mod EvaluatedSeen
 pub mod Events
 pub mod Filtering
 pub mod Fitted
+pub mod Forms
 pub mod Inputs
 pub mod Limits
 pub mod LinksSeen

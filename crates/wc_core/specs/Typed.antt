@@ -11,6 +11,7 @@ use Rattle.wc_text.specs.Words.{is_filled}
 use Rattle.wc_text.specs.Splits.{before, text_after, word_of, rest_of}
 use Rattle.wc_model.specs.declared.change.What.{What}
 use Rattle.wc_model.specs.declared.change.What.TheVariants as what
+use Rattle.wc_core.specs.Forms.{form_named, names_told, without_slash}
 use Rattle.wc_core.specs.declared.typed_eval.EvalUse.{EvalUse}
 use Rattle.wc_core.specs.declared.typed_eval.EvalUse.TheVariants as eval
 use Rattle.wc_core.specs.declared.typed_filter.FilterChange.{FilterChange}
@@ -273,6 +274,22 @@ filter_word word text =
 abbrev pub filter_command : List ℕ → TypedCommand
 filter_command text = filter_word (word_of text) (rest_of text)
 
+-- ---- `/help`
+
+-- the form of a command is printed where it was typed
+abbrev pub help_with : List ℕ → Option (List ℕ) → TypedCommand
+help_with name None = Refused (codes "unknown command: /" ++ name)
+help_with name (Some form) = Prints None [] [] form
+
+abbrev pub help_on : List ℕ → TypedCommand
+help_on name = help_with name (form_named name)
+
+-- a name, with or without its `/`, and nothing after it; without one, all names
+abbrev pub help_command : List ℕ → TypedCommand
+help_command [] = Prints None [] [] names_told
+help_command (b ∷ text) = if nat_lt 0 (length (rest_of (b ∷ text)))
+    then wrong_arguments (codes "help") else help_on (without_slash (word_of (b ∷ text)))
+
 -- ---- commands
 
 -- `/quit` has no words after it
@@ -311,7 +328,8 @@ command name rest =
     if bytes_eq name (codes "close") then close_here rest else (
     if bytes_eq name (codes "quit") then quit_command rest else (
     if bytes_eq name (codes "eval") then eval_command rest else (
-    if bytes_eq name (codes "filter") then filter_command rest else news_command name rest)))))
+    if bytes_eq name (codes "filter") then filter_command rest else (
+    if bytes_eq name (codes "help") then help_command rest else news_command name rest))))))
 
 -- what one line asks for after a `/`
 abbrev pub slash_command : List ℕ → TypedCommand

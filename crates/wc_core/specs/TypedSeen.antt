@@ -20,6 +20,7 @@ use Rattle.wc_core.specs.declared.typed_filter.FilterUse.TheVariants as usage
 use Rattle.wc_core.specs.declared.typed_filter.FilterChange.{FilterChange}
 use Rattle.wc_core.specs.declared.typed_filter.FilterChange.TheVariants as filtering
 use Rattle.wc_core.specs.Typed.{Merges, Names, Changes, Sets, Unsets, Switches, Saves, Evaluates}
+use Rattle.wc_core.specs.Forms.{names_told}
 use Rattle.wc_core.specs.Typed.{UsesHotlist, UsesFilters, hotlist_value, lines_of_text, tags_of}
 use Rattle.wc_core.specs.Typed.{wrong_buffer, some_text, without_words, starts}
 
@@ -62,6 +63,7 @@ meaning (asked.Switch name) = Switches name.now
 meaning asked.Save = Saves
 meaning (asked.UseHotlist usage) = UsesHotlist usage
 meaning (asked.UseFilters change) = UsesFilters (filters_meant change)
+meaning asked.ListCommands = Prints None [] [] names_told
 meaning (asked.Eval usage text) = Evaluates usage text.now
 
 -- two texts that were found, as one

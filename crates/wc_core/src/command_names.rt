@@ -2,22 +2,23 @@
 
 ghost use Rattle.std.specs.Prelude.{◌≡◌, ◌++◌, IfOk, OnOk};
 ghost use Rattle.wc_text.specs.Words.{words_of};
-ghost use Rattle.wc_core.specs.CommandNames.{core_text, server_text, command_names};
+ghost use Rattle.wc_core.specs.Forms.{core_text, server_text, command_names, names_told};
 
+use crate::refusals::joined_texts;
 use std::alloc::Global;
 use std::marker::Model;
 use wc_text::{Items, NoMemory, Text, words};
 
 /// The names of the commands that the core knows by itself, which blanks part.
-#[tactic(auto, unfolding(crate::specs::CommandNames::core_text))]
+#[tactic(auto, unfolding(crate::specs::Forms::core_text))]
 fn core_text() -> &'static [u8]
     ensures { result.now ≡ core_text }
 {
-    b"print buffer close quit eval filter hotlist set unset save"
+    b"print buffer close quit eval filter help hotlist set unset save"
 }
 
 /// The names of the commands that servers know, which blanks part.
-#[tactic(auto, unfolding(crate::specs::CommandNames::server_text))]
+#[tactic(auto, unfolding(crate::specs::Forms::server_text))]
 fn server_text() -> &'static [u8]
     ensures { result.now ≡ server_text }
 {
@@ -25,6 +26,16 @@ fn server_text() -> &'static [u8]
 connect disconnect w whois whowas who list away invite op deop voice devoice \
 halfop dehalfop ban unban kickban ctcp ping motd cycle oper knock time version \
 stats"
+}
+
+/// The line that has the names of all commands.
+pub(crate) fn names_told(alloc: Global) -> Result<Text, NoMemory>
+    ensures { IfOk result (λ text. text ≡ names_told) }
+{
+    let mut text = joined_texts(alloc, b"core: ", core_text())?;
+    text.append(b"; IRC: ")?;
+    text.append(server_text())?;
+    Ok(text)
 }
 
 /// Puts the words of a text after the others.
@@ -46,7 +57,7 @@ pub struct CommandNames {
 
 impl Model for CommandNames {
     ghost use Rattle.std.specs.Prelude.{◌≡◌, List, ℕ};
-    ghost use Rattle.wc_core.specs.CommandNames.{command_names};
+    ghost use Rattle.wc_core.specs.Forms.{command_names};
 
     ghost Value = { List (List ℕ) };
 
@@ -56,7 +67,7 @@ impl Model for CommandNames {
 }
 
 impl CommandNames {
-    #[tactic(auto, unfolding(crate::specs::CommandNames::command_names))]
+    #[tactic(auto, unfolding(crate::specs::Forms::command_names))]
     pub fn new(alloc: Global) -> Result<CommandNames, NoMemory>
         ensures { IfOk result (λ names. names ≡ command_names) }
     {

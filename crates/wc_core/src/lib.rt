@@ -2,6 +2,7 @@
 #![tactic(auto)]
 
 mod beginning;
+mod command_forms;
 mod command_names;
 mod core_acts;
 mod core_connect;
@@ -24,11 +25,12 @@ mod typed;
 mod typed_buffer;
 mod typed_eval;
 mod typed_filter;
+mod typed_help;
 mod typed_hotlist;
 
 pub use command_names::CommandNames;
 pub use core_state::Core;
-pub use laws::known_commands_are_named;
+pub use laws::{each_command_has_one_form, known_commands_are_named};
 pub use limits::port_of;
 pub use wc_board::{Connection, Departure};
 pub use wc_servers::Wanted;

@@ -1,5 +1,6 @@
 ghost use Rattle.std.specs.Option.{option_copied};
 ghost use Rattle.std.specs.Prelude.{◌≡◌, IfOk, ◌++◌, [], ℕ, ◌^◌, ◌-◌, min};
+ghost use Rattle.wc_core.specs.Forms.{names_told};
 ghost use Rattle.wc_core.specs.Resolved.{ChangesFilters, SetsOption, UnsetsOption, switched};
 ghost use Rattle.wc_core.specs.Resolved.{Asks, Tells, no_such_buffer, change_of, buffer_meant};
 ghost use Rattle.wc_core.specs.Resolved.{of_meant, of_named, effect_of, line_spec, core_spec, usec_of};
@@ -13,6 +14,7 @@ ghost use Rattle.wc_model.specs.declared.change.Change.{Change};
 ghost use Rattle.wc_model.specs.declared.change.What.TheVariants as what;
 ghost use Rattle.wc_text.specs.declared.names.Handle.{Handle};
 
+use crate::command_names::names_told;
 use crate::refusals::joined_texts;
 use crate::typed::{CommandText, read_number, read_tags};
 use crate::typed_filter::{FilterChange, FilterUse};
@@ -250,6 +252,7 @@ pub(crate) fn resolve(
         CommandText::Save => Ok(Resolution::SavesOptions),
         CommandText::UseHotlist(usage) => Ok(Resolution::ChangesHotlist(usage, buffer)),
         CommandText::UseFilters(usage) => change_filters(alloc, usage),
+        CommandText::ListCommands => list_commands(alloc, moment, buffer),
         CommandText::Eval { usage: _, text: _ } => Ok(Resolution::Stays),
     }
 }
@@ -318,6 +321,15 @@ fn print(
 {
     let line = read_line_spec(alloc, moment, tags, prefix, message)?;
     asks_there(alloc, buffer, What::Print(line))
+}
+
+/// The print of the names of all commands on a buffer.
+fn list_commands(alloc: Global, moment: u64, buffer: Handle) -> Result<Resolution, NoMemory>
+    ensures { IfOk result (λ r. outcome_of r ≡ Asks (change_of buffer
+        (what.Print (line_spec moment [] [] names_told)))) }
+{
+    let names = names_told(alloc)?;
+    print(alloc, Some(buffer), moment, b"", b"", names.as_slice())
 }
 
 /// The print of a line without tags on the core buffer.

@@ -12,11 +12,12 @@ ghost use Rattle.wc_text.specs.Words.{is_filled};
 use crate::typed_buffer::{buffer_command, only_word};
 use crate::typed_eval::{EvalUse, eval_command};
 use crate::typed_filter::{FilterUse, filter_command};
+use crate::typed_help::help_command;
 use crate::typed_hotlist::{HotlistUse, news_command};
 use std::alloc::Global;
 use wc_text::{Items, NoMemory, Text, cut_word, split_once};
 
-const UNKNOWN: &[u8] = b"unknown command: /";
+pub(crate) const UNKNOWN: &[u8] = b"unknown command: /";
 
 const WRONG: &[u8] = b"wrong arguments: /";
 
@@ -80,6 +81,8 @@ pub enum CommandText<'a> {
     UseHotlist(HotlistUse),
     /// The filters are to change.
     UseFilters(FilterUse<'a>),
+    /// The names of all commands are to be printed.
+    ListCommands,
     /// A text that is evaluated.
     Eval {
         usage: EvalUse,
@@ -201,6 +204,8 @@ fn command<'a>(name: &'a [u8], text: &'a [u8]) -> CommandText<'a>
         eval_command(text)
     } else if name == b"filter".as_slice() {
         filter_command(text)
+    } else if name == b"help".as_slice() {
+        help_command(text)
     } else {
         news_command(name, text)
     }

@@ -21,7 +21,8 @@ use Rattle.wc_model.specs.World.{World}
 use Rattle.wc_text.specs.Splits.{onward, text_after, word_of, rest_of}
 use Rattle.wc_relaycmd.proofs.Utf8Lemmas.{cut_text, put_byte, before_text, past_text}
 use Rattle.wc_core.specs.Resolved.{Effect, Stays, Ends, Tells, Asks, SetsOption, UnsetsOption, SavesOptions, ChangesHotlist, ChangesFilters, switched, buffer_meant, of_meant, of_named, change_of, line_spec, plugin_in, effect_of}
-use Rattle.wc_core.specs.Typed.{TypedCommand, Nothing, Quits, Refused, Others, Prints, Adds, Closes, Merges, Names, Changes, Sets, Unsets, Switches, Saves, UsesHotlist, UsesFilters, save_command, switch_command, input_command, hotlist_value, hotlist_command, news_command, set_option, set_command, unset_command, option_command, unknown_command, wrong_arguments, lines_parted, lines_of_text, print_unless_empty, print_words, tags_of, is_first, second_of, after_second, print_tagged, print_on, print_command, wrong_buffer, one_word, without_words, some_text, moves_to, close_command, starts, set_property, buffer_word, buffer_command, quit_command, close_here, wrong_filter, filter_with, add_filter, one_filter, switch_filters, filter_word, filter_command, command, slash_command, typed_line, Evaluates, eval_text, eval_printed, eval_command}
+use Rattle.wc_core.specs.Typed.{TypedCommand, Nothing, Quits, Refused, Others, Prints, Adds, Closes, Merges, Names, Changes, Sets, Unsets, Switches, Saves, UsesHotlist, UsesFilters, save_command, switch_command, input_command, hotlist_value, hotlist_command, news_command, set_option, set_command, unset_command, option_command, unknown_command, wrong_arguments, lines_parted, lines_of_text, print_unless_empty, print_words, tags_of, is_first, second_of, after_second, print_tagged, print_on, print_command, wrong_buffer, one_word, without_words, some_text, moves_to, close_command, starts, set_property, buffer_word, buffer_command, quit_command, close_here, wrong_filter, filter_with, add_filter, one_filter, switch_filters, filter_word, filter_command, help_with, help_on, help_command, command, slash_command, typed_line, Evaluates, eval_text, eval_printed, eval_command}
+use Rattle.wc_core.specs.Forms.{without_slash, form_named}
 use Rattle.wc_mirror_laws.specs.Worlds.{IsBufferKept, IsWorldKept}
 use Rattle.wc_mirror_laws.proofs.ListLemmas.{all_filter}
 use Rattle.wc_mirror_laws.proofs.RowLemmas.{row_has}
@@ -315,9 +316,22 @@ filter_word_text word text =
     (if_text (bytes_eq word (codes "disable")) (switch_filters Disable text) toggles (λ here. switch_filters_text Disable text)
     (if_text (bytes_eq word (codes "toggle")) (switch_filters Toggle text) wrong_filter (λ here. switch_filters_text Toggle text) tt))))
 
+help_on_text : (name : List ℕ) → IsTypedText (help_on name)
+help_on_text name = by (form_named name) where
+  by : (o : Option (List ℕ)) → IsTypedText (help_with name o)
+  by None = tt
+  by (Some form) = tt
+
+help_text : (text : List ℕ) → IsTypedText (help_command text)
+help_text [] = tt
+help_text (b ∷ text) =
+    let name = without_slash (word_of (b ∷ text)) in
+    if_text (ltb 0 (length (rest_of (b ∷ text)))) (wrong_arguments (codes "help")) (help_on name) (λ here. tt) (help_on_text name)
+
 command_text : (name rest : List ℕ) → IsUtf8 rest → IsTypedText (command name rest)
 command_text name rest utf8 =
-    let filters = cond (bytes_eq name (codes "filter")) (filter_command rest) (news_command name rest) in
+    let helps = cond (bytes_eq name (codes "help")) (help_command rest) (news_command name rest) in
+    let filters = cond (bytes_eq name (codes "filter")) (filter_command rest) helps in
     let evals = cond (bytes_eq name (codes "eval")) (eval_command rest) filters in
     let quits = cond (bytes_eq name (codes "quit")) (quit_command rest) evals in
     let closes = cond (bytes_eq name (codes "close")) (close_here rest) quits in
@@ -327,7 +341,8 @@ command_text name rest utf8 =
     (if_text (bytes_eq name (codes "close")) (close_here rest) quits (λ here. close_here_text rest)
     (if_text (bytes_eq name (codes "quit")) (quit_command rest) evals (λ here. quit_text rest)
     (if_text (bytes_eq name (codes "eval")) (eval_command rest) filters (λ here. eval_command_text rest utf8)
-    (if_text (bytes_eq name (codes "filter")) (filter_command rest) (news_command name rest) (λ here. filter_word_text (word_of rest) (rest_of rest)) (news_text name rest))))))
+    (if_text (bytes_eq name (codes "filter")) (filter_command rest) helps (λ here. filter_word_text (word_of rest) (rest_of rest))
+    (if_text (bytes_eq name (codes "help")) (help_command rest) (news_command name rest) (λ here. help_text rest) (news_text name rest)))))))
 
 slashed_text : (text : List ℕ) → IsUtf8 text → IsTypedText (slash_command text)
 slashed_text [] utf8 = command_text [] [] utf8
