@@ -60,7 +60,8 @@ INSPIRCD = """<server name="{name}" description="test" network="test" id="97K">
 <log method="file" type="* -USERINPUT -USEROUTPUT" level="default" target="{folder}/log">
 <module name="cap"><module name="sasl"><module name="services_account"><module name="spanningtree"><module name="knock">
 <module name="ircv3"><module name="ircv3_capnotify"><module name="namesx"><module name="uhnames">
-<module name="hidechans"><module name="customprefix">
+<module name="ircv3_servertime"><module name="ircv3_invitenotify"><module name="ircv3_chghost"><module name="ircv3_ctctags">
+<module name="setname"><module name="chghost"><module name="hidechans"><module name="customprefix">
 <customprefix name="halfop" letter="h" prefix="%" rank="20000" ranktoset="30000">
 <sasl target="{services}" requiressl="no">
 <link name="{services}" ipaddr="127.0.0.1" port="{link}" allowmask="127.0.0.0/8" timeout="30" ssl="" sendpass="link" recvpass="link">

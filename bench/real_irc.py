@@ -1,5 +1,5 @@
 #!/usr/bin/env python3
-"""Checks the program against real IRC servers: everyday commands, long texts, logins by SASL.
+"""Checks the program against real IRC servers: everyday commands, long texts, capabilities, logins by SASL.
 
 Starts ngircd, ircd-hybrid, InspIRCd, and InspIRCd with Atheme's services (see bench/irc_servers.py for the packages), one
 after another, and the program with a folder of its own. A plain user of its own is on the same channel. It prints a line for
@@ -60,6 +60,26 @@ class User:
             self.read()
 
 
+    def nicks(self, channel):
+        """The nicks of a channel with their highest sign, as the server tells them."""
+        self.read()
+        self.lines.clear()
+        self.say("NAMES " + channel)
+        self.until(" 366 ")
+        rows = [line.decode().split(" :", 1)[1] for line in self.lines if b" 353 " in line]
+        return sorted(" ".join(rows).split())
+
+
+def eventually(holds, patience=PATIENCE):
+    """Whether this holds, now or soon."""
+    end = time.time() + patience
+    while time.time() < end:
+        if holds():
+            return True
+        time.sleep(0.1)
+    return False
+
+
 class Program:
     """The program with one server, and a client of it."""
 
@@ -95,20 +115,22 @@ class Program:
 
     def sees(self, pattern, patience=PATIENCE, known=0):
         """Whether more lines than those known have this pattern."""
-        end = time.time() + patience
-        while time.time() < end:
-            if self.count(pattern) > known:
-                return True
-            time.sleep(0.1)
-        return False
+        return eventually(lambda: self.count(pattern) > known, patience)
+
+    def comes_first(self, one, other):
+        """Whether a line with a pattern is before each with the other."""
+        texts = self.texts()
+        places = [[n for n, text in enumerate(texts) if re.search(pattern, text)] for pattern in (one, other)]
+        return all(places) and min(places[0]) < min(places[1])
 
     def has(self, name, patience=PATIENCE):
-        end = time.time() + patience
-        while time.time() < end:
-            if name in self.buffers():
-                return True
-            time.sleep(0.1)
-        return False
+        return eventually(lambda: name in self.buffers(), patience)
+
+    def nicks(self, channel):
+        """The nicks of a channel with their signs, as its nicklist has them."""
+        self.client.send("(n) nicklist irc.x." + channel)
+        rows = [values for _, values in self.client.until("n").items]
+        return sorted(row["prefix"].strip() + row["name"] for row in rows if not row["group"])
 
     def stop(self):
         self.run.kill()
@@ -120,6 +142,14 @@ COMMANDS = (
     ("/whois peer", "ours", r"(?i)end of.*whois"),
     ("/whowas nobody", "ours", r"(?i)whowas|no such nick|nobody"),
     ("/who #t", "ours", r"(?i)end of.*who"),
+    ("/w #t", "ours", r"(?i)end of.*who"),
+    ("/names", "ours", r"Channel #t: \d+ nicks"),
+    ("/n", "ours", r"Channel #t: \d+ nicks"),
+    ("/ping irc.test.local", "ours", r"(?i)pong|irc\.test\.local"),
+    ("/help", "ours", r"core: print .*; IRC: join "),
+    ("/help WHOIS", "ours", r"^\t/whois \[SERVER\] NICKS$"),
+    ("/help /topic", "ours", r"^\t/topic TEXT\|-delete$"),
+    ("/help nothing", "ours", r"^=!=\tunknown command: /nothing$"),
     ("/list", "ours", r"(?i)end of.*list"),
     ("/away gone fishing", "ours", r"(?i)marked as being away"),
     ("/away", "ours", r"(?i)no longer marked"),
@@ -173,16 +203,76 @@ def check_commands(checks, program, users):
         checks.note(typed, good)
         if typed.startswith("/mode"):
             program.type("irc.x.#t", "/mode -m")
-    program.type("irc.x.#t", "/j #two")
-    checks.note("/j #two", program.has("irc.x.#two"))
-    users["peer"].say("JOIN #two")
-    users["peer"].until("JOIN :?#two")
-    program.type("irc.x.#two", "/part see you")
-    checks.note("/part with a reason", bool(users["peer"].until(r"PART #two :?.*see you")))
     program.type("irc.x.#t", "/msg NickServ identify secretword")
     time.sleep(0.5)
     shown = [text for text in program.texts() if "secretword" in text]
     checks.note("a password is not shown", not shown)
+
+
+def check_channels(checks, program, peer):
+    """Channels that are joined, left by each of two commands, and knocked at."""
+    for channel in ("#two", "#three"):
+        program.type("irc.x.#t", "/j " + channel)
+        checks.note("/j " + channel, program.has("irc.x." + channel))
+        peer.say("JOIN " + channel)
+        peer.until("JOIN :?" + channel)
+    program.type("irc.x.#two", "/part see you")
+    checks.note("/part with a reason", bool(peer.until(r"PART #two :?.*see you")))
+    program.type("irc.x.#three", "/close")
+    checks.note("/close leaves the channel", bool(peer.until(r":ours!\S+ PART :?#three")))
+    checks.note("/close closes its buffer", eventually(lambda: "irc.x.#three" not in program.buffers()))
+    peer.say("JOIN #locked")
+    peer.say("MODE #locked +i")
+    peer.until(r"MODE #locked :?\+i")
+    program.type("irc.x.#t", "/knock #locked let me in")
+    checks.note("/knock", program.sees(r"(?i)knock"))
+
+
+WISHED_OPTION = (
+    "irc.server.x.capabilities = multi-prefix userhost-in-names extended-join server-time away-notify account-notify chghost setname"
+    " invite-notify message-tags\n"
+)
+
+
+def check_capabilities(checks, program, server):
+    """The nicklist is what the server tells, after each of what nicks do, where all capabilities are asked for."""
+    program.type("irc.x.#t", "/quote CAP LIST")
+    program.sees("multi-prefix", 3)
+    print("%s: %s" % (checks.kind, [text for text in program.texts() if "multi-prefix" in text]), flush=True)
+    program.type("irc.x.#t", "/j #caps")
+    checks.note("/j #caps", program.has("irc.x.#caps"))
+    users = {nick: User(server.port, nick) for nick in ("one", "two", "six", "eye")}
+    ours, (one, two, six, eye) = lambda text: program.type("irc.x.#caps", text), [user.say for user in users.values()]
+    steps = (
+        ("joins", lambda: [say("JOIN #caps") for say in (one, two, six, eye)], "@ours eye one six two"),
+        ("signs", lambda: (ours("/op one"), ours("/voice one two"), ours("/halfop two")), "%two @one @ours eye six"),
+        ("a sign goes", lambda: ours("/deop one"), "%two +one @ours eye six"),
+        ("names that are asked for", lambda: ours("/names"), "%two +one @ours eye six"),
+        ("a part", lambda: two("PART #caps :bye"), "+one @ours eye six"),
+        ("a join again", lambda: two("JOIN #caps"), "+one @ours eye six two"),
+        ("renames", lambda: (two("NICK deux"), one("NICK ONE"), ours("/nick nos")), "+ONE @nos deux eye six"),
+        ("away, and back", lambda: (one("AWAY :gone"), six("AWAY :too"), one("AWAY")), "+ONE @nos deux eye six"),
+        ("a real name", lambda: one("SETNAME :The One"), "+ONE @nos deux eye six"),
+        ("another host", lambda: (one("OPER op secret"), one("CHGHOST ONE other.host")), "+ONE @nos deux eye six"),
+        ("an account", lambda: one("PRIVMSG NickServ :IDENTIFY account goodword"), "+ONE @nos deux eye six"),
+        ("a kick", lambda: ours("/kick six out"), "+ONE @nos deux eye"),
+        ("another operator", lambda: ours("/op eye"), "+ONE @eye @nos deux"),
+        ("an invitation", lambda: eye("INVITE six #caps"), "+ONE @eye @nos deux"),
+        ("a quit", lambda: one("QUIT :bye"), "@eye @nos deux"),
+    )
+    for name, act, wanted in steps:
+        act()
+        seen = []
+        same = eventually(lambda: are_nicks(wanted.split(), users["eye"], program, seen), 15)
+        checks.note("nicks after " + name, same)
+        if not same:
+            print("    wanted %s, the server's %s, ours %s" % (wanted, *seen))
+
+
+def are_nicks(wanted, user, program, seen):
+    """Whether the server and the nicklist have these nicks; both are left in `seen`."""
+    seen[:] = [user.nicks("#caps"), program.nicks("#caps")]
+    return seen == [wanted, wanted]
 
 
 def words_of(count):
@@ -232,7 +322,13 @@ def check_server(binary, kind, port, folder):
             users[nick].until("JOIN :?#t")
         check_long(checks, program, users["peer"])
         check_guest(checks, program, users)
+        check_channels(checks, program, users["peer"])
         check_commands(checks, program, users)
+        program.stop()
+        time.sleep(1)
+        program = Program(binary, server, port + 101, WISHED_OPTION)
+        checks.note("joins with capabilities", program.has("irc.x.#t", 20))
+        check_capabilities(checks, program, server)
     finally:
         program.stop()
         server.stop()
@@ -271,10 +367,14 @@ def check_sasl(binary, port, folder):
     for number, (name, options, pattern, joins) in enumerate(cases):
         program = Program(binary, server, port + 101 + number, options)
         good = program.has("irc.x.#t", 10 if joins else 4) == joins
-        good = good and (pattern is None or program.sees(pattern, 2))
+        good = good and (pattern is None or program.sees(pattern, 2) and program.comes_first(pattern, r"(?i)welcome"))
         checks.note(name, good)
         program.stop()
         time.sleep(1)
+    program = Program(binary, server, port + 104, SASL % ("account", "goodword") + WISHED_OPTION)
+    checks.note("joins with capabilities and SASL", program.has("irc.x.#t", 20))
+    check_capabilities(checks, program, server)
+    program.stop()
     server.stop()
     return checks.failed
 
@@ -290,4 +390,5 @@ def main():
     sys.exit(1 if failed else 0)
 
 
-main()
+if __name__ == "__main__":
+    main()
