@@ -2,7 +2,7 @@
 use Rattle.std.proofs.Common.{◌≡◌, ◌≢◌, ◌⊎◌, inl, inr, ℕ, ◌≤◌, Bool, true, false, eqb, cond, IsTrue, List, [], ◌∷◌, ◌++◌, length, map, Option, Some, None, Ok, Err, IfOk, IfSome, IsSomeAnd, is_some, refl, sym, ap, subst, ◌∙◌, arith}
 use Rattle.std.proofs.lemmas.Bool.{false≢true}
 use Rattle.std.proofs.lemmas.Bool.Decides.{nat_tests}
-use Rattle.std.proofs.lemmas.List.{length-append}
+use Rattle.std.proofs.lemmas.List.{append-nil, length-append}
 use Rattle.wc_text.specs.declared.names.Address.{Address}
 use Rattle.wc_outside.specs.Faults.{Rose, NeverFall}
 use Rattle.wc_outside.specs.Seen.{Seen}
@@ -17,13 +17,12 @@ use Rattle.wc_options.specs.Config.{config_of}
 use Rattle.wc_options.specs.Options.{OptionsValue}
 use Rattle.wc_core.specs.Limits.{port_of}
 use Rattle.wc_loop.proofs.OptionsLemmas.{some_port}
-use Rattle.wc_turns.specs.Sources.{AllServed, AllSent}
 use Rattle.wc_turns.specs.Turns.{wake_count, listen_faults, faults_then}
 use Rattle.wc_loop.specs.Headline.{Headline, IsConfigured}
 use Rattle.wc_loop.specs.Words.{Opening}
 use Rattle.wc_turns.specs.Saves.{held_by, SavesTurn}
 use Rattle.wc_turns.proofs.TurnLemmas.{NeverFall-trans}
-use Rattle.wc_loop.specs.Endings.{KeepsText, HoldsEarlier, HoldsSaved, FailsToSave, ClosesLast, LastTurn, saved_in, status_of, asked_in, IsPort, kept_of, LastOf, WaitsAtMost, HasQuit, EndsAt, IsEarly, IsLastState, Runs}
+use Rattle.wc_loop.specs.Endings.{KeepsText, HoldsEarlier, HoldsSaved, FailsToSave, ClosesLast, LastTurn, LastDid, ServedLast, SentLast, saved_in, status_of, asked_in, IsPort, kept_of, LastOf, WaitsAtMost, HasQuit, EndsAt, IsEarly, IsLastState, Runs}
 use Rattle.wc_loop.proofs.HeadlineLemmas.{IfSome-last}
 
 kept_of-some : (h : Headless) → 1 ≤ h.turns → kept_of h ≡ Some h
@@ -127,6 +126,19 @@ closes-last opening contents x h start before after counts f headline = record {
   closes = f.closes;
 }
 
+-- what the last turn did, seen from before the first one
+pub last-since : {end : TurnEnd} {how : Headless → Headless → Seen → Seen → Type 0} (h : Headless) (start before after : Seen) → (IsTrue before.tells → IsTrue start.tells) → (IsTrue before.tells → before.taken ≡ start.taken ++ []) → LastDid end how before after h → LastDid end how start after h
+last-since h start before after told taken f = record {
+  earlier = f.earlier;
+  seen = f.seen;
+  told = λ t. told (f.told t);
+  gained = f.gained;
+  taken = λ t. f.taken t ∙ ap (λ xs. xs ++ f.gained) (taken (f.told t) ∙ append-nil start.taken);
+  agrees = f.agrees;
+  turn = f.turn;
+  did = f.did;
+}
+
 -- however the run ended
 pub held-saved : (opening : Opening) (contents kept : Option (List ℕ)) (after : Seen) (status : ℕ) (last : Option Headless) → (status ≢ 3 → KeepsText contents kept last) → (status ≡ 3 → IfSome last (HoldsEarlier opening contents kept after)) → (last ≡ None → kept ≡ contents) → HoldsSaved opening contents kept after last
 held-saved opening contents kept after status None text earlier same = same refl
@@ -154,8 +166,8 @@ module _ (opening : Opening) where
     pub listen_fault : then ≡ ListenFault → Rose before.faults.listens after.faults.listens
     pub keeper_fault : then ≡ KeeperFault → Rose k k'
     pub asked : IsTrue after.tells → Listened contents h.turns after.asked
-    pub served : then ≡ GoOn → AllServed h before after
-    pub sent : then ≡ Quit → AllSent h before after
+    pub served : then ≡ GoOn → ServedLast before after h
+    pub sent : then ≡ Quit → SentLast before after h
     pub left : 1 ≤ h.turns → IsLastState opening contents before after h
 
   at-most : (turns : ℕ) (after : Seen) (h : Headless) → h.turns ≤ turns → (IsTrue after.tells → wake_count after.taken ≡ h.turns) → WaitsAtMost turns after (kept_of h)

@@ -15,10 +15,9 @@ use Rattle.wc_loop.proofs.OptionsLemmas.{some_port}
 use Rattle.wc_loop.specs.Demo.{demo_text, IsDemoEnd, PrintsDemo, IfDemo, IfDemoShown}
 use Rattle.wc_loop.specs.Headline.{Headline, TakesEach}
 use Rattle.wc_loop.specs.Words.{Opening}
-use Rattle.wc_turns.specs.Sources.{AllServed, AllSent}
 use Rattle.wc_turns.specs.Parties.{IsCalm}
 use Rattle.wc_turns.specs.Turns.{wake_count, AgreesWithSockets}
-use Rattle.wc_loop.specs.Endings.{ClosesLast, LastOf, StatusOf, StatusFor, IsNumber, IsLastState, HasCause, WaitsAtMost, AsksNothing, RunsBy, RunsFor, asks_turns, runs_for, shown_by, IsAsked, printed_text, status_text, ending_text, status_of, number_of, counts_in, shown_at, is_unsaved}
+use Rattle.wc_loop.specs.Endings.{ClosesLast, ServedLast, SentLast, LastOf, StatusOf, StatusFor, IsNumber, IsLastState, HasCause, WaitsAtMost, AsksNothing, RunsBy, RunsFor, asks_turns, runs_for, shown_by, IsAsked, printed_text, status_text, ending_text, status_of, number_of, counts_in, shown_at, is_unsaved}
 
 -- ---- the text
 
@@ -124,8 +123,8 @@ module _ (opening : Opening) where
     pub text : ending_text ending ≡ printed_text (shown_by wish) (is_some last) (status_of ending) (number_of ending) (counts_in ending)
     pub counted : LastOf after last
     pub left : IfSome last (IsLastState opening contents before after)
-    pub served : status_of ending ≡ 8 → IfSome last (λ last. AllServed last before after)
-    pub sent : status_of ending ≡ 0 → IfSome last (λ last. AllSent last before after)
+    pub served : status_of ending ≡ 8 → IfSome last (ServedLast before after)
+    pub sent : status_of ending ≡ 0 → IfSome last (SentLast before after)
     pub faults : HasCause before.faults after.faults k k' (status_of ending)
     pub asked : IsTrue after.tells → IsAsked (asks_turns wish) contents (status_of ending) (is_some last) after.asked
 

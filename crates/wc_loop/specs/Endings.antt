@@ -5,6 +5,7 @@ use Rattle.std.specs.Prelude.{IfSome, IfOk, IsSome, is_some, IsTrue, IsSomeAnd, 
 use Rattle.std.specs.Io.KnownBytes.{append_known}
 use Rattle.wc_text.specs.declared.names.Address.{Address}
 use Rattle.wc_outside.specs.Faults.{Faults, NeverFall, Rose}
+use Rattle.wc_outside.specs.declared.happening.Happening.{Happening}
 use Rattle.wc_outside.specs.Seen.{Seen}
 use Rattle.wc_outside.specs.declared.happening.Asked.{Asked}
 use Rattle.wc_outside.specs.declared.happening.Asked.TheVariants.{Listen, Connect}
@@ -365,6 +366,27 @@ pub record FailsToSave (first last : Headless) (before after : Seen)
   pub turn : TurnStep KeeperFault earlier last seen after
   pub saves : SavesTurn first.core earlier.core contents kept
 
+-- the last of some turns ended so, and this is so of what it did
+pub record LastDid (end : TurnEnd) (how : Headless → Headless → Seen → Seen → Type 0)
+    (before after : Seen) (last : Headless) : Type 0 where
+  -- the state before the last turn, and what was seen then
+  pub earlier : Headless
+  pub seen : Seen
+  pub told : IsTrue seen.tells → IsTrue before.tells
+  pub gained : List Happening
+  pub taken : IsTrue seen.tells → seen.taken ≡ before.taken ++ gained
+  pub agrees : AgreesWithSockets earlier seen
+  pub turn : TurnStep end earlier last seen after
+  pub did : how earlier last seen after
+
+-- in the last turn each source was served, or it waits, and each link is written
+abbrev pub ServedLast : Seen → Seen → Headless → Type 0
+ServedLast before after = LastDid GoOn AllServed before after
+
+-- in the last turn each link with unsent bytes was written once, after `/quit`
+abbrev pub SentLast : Seen → Seen → Headless → Type 0
+SentLast before after = LastDid ThenQuit (λ earlier. AllSent) before after
+
 -- a run that was asked for this number of waits ends
 pub record Runs (opening : Opening) (turns : ℕ) (contents : Option (List ℕ)) (kept kept' : ℕ) (before after : Seen)
     (ending : Ending) (last : Option Headless) : Type 0 where
@@ -378,10 +400,9 @@ pub record Runs (opening : Opening) (turns : ℕ) (contents : Option (List ℕ))
   pub most : WaitsAtMost turns after last
   pub left : IfSome last (IsLastState opening contents before after)
   -- after the last turn each source is served, and each link is written
-  pub served : status_of ending ≡ 8 →
-      IfSome last (λ last. AllServed last before after)
+  pub served : status_of ending ≡ 8 → IfSome last (ServedLast before after)
   -- after `/quit` each link is written once
-  pub sent : status_of ending ≡ 0 → IfSome last (λ last. AllSent last before after)
+  pub sent : status_of ending ≡ 0 → IfSome last (SentLast before after)
   pub faults : HasCause before.faults after.faults kept kept' (status_of ending)
   pub asked : IsTrue after.tells → IsAsked true contents (status_of ending) (is_some last)
       after.asked

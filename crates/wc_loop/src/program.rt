@@ -6,10 +6,9 @@ ghost use Rattle.wc_outside.specs.Seen.{IsNew};
 ghost use Rattle.wc_loop.specs.Demo.{PrintsDemo, IsDemoEnd, IfDemo};
 ghost use Rattle.wc_loop.specs.Endings.{LastOf, StatusOf, WaitsAtMost, Prints, HasCause, RunsBy};
 ghost use Rattle.wc_loop.specs.Endings.{asks_turns, IsAsked, status_of, ending_text, KeepsText};
-ghost use Rattle.wc_loop.specs.Endings.{HoldsEarlier, HoldsSaved, ClosesLast};
+ghost use Rattle.wc_loop.specs.Endings.{HoldsEarlier, HoldsSaved, ClosesLast, ServedLast, SentLast};
 ghost use Rattle.wc_loop.specs.Headline.{Headline, TakesEach, ClientsHoldDumps, LinesAreShown};
 ghost use Rattle.wc_turns.specs.Parties.{IsCalm};
-ghost use Rattle.wc_turns.specs.Sources.{AllServed, AllSent};
 ghost use Rattle.wc_loop.specs.Words.{opening_of, wish_of};
 ghost use Rattle.wc_turns.specs.Turns.{AgreesWithSockets};
 
@@ -182,11 +181,9 @@ pub fn run_program<S: Sockets, K: Keeper, O: Sink>(
         (opening_of (map string_bytes words.now.items)) (K.contents keeper.old)
         (S.seen sockets.old) (S.seen sockets.new)) }
     ensures served { result.status ≡ 8 →
-        IfSome result.last (λ last. AllServed last (S.seen sockets.old)
-        (S.seen sockets.new)) }
+        IfSome result.last (ServedLast (S.seen sockets.old) (S.seen sockets.new)) }
     ensures sent { result.status ≡ 0 →
-        IfSome result.last (λ last. AllSent last (S.seen sockets.old)
-        (S.seen sockets.new)) }
+        IfSome result.last (SentLast (S.seen sockets.old) (S.seen sockets.new)) }
     ensures faults { HasCause (S.seen sockets.old).faults (S.seen sockets.new).faults
         (K.faults keeper.old) (K.faults keeper.new) result.status }
     ensures sink { result.status ≡ 7 → Rose (O.faults out.old) (O.faults out.new) }

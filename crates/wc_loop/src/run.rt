@@ -6,6 +6,7 @@ ghost use Rattle.wc_outside.specs.Faults.{Rose};
 ghost use Rattle.wc_outside.specs.Seen.{IsNew};
 ghost use Rattle.wc_loop.specs.Endings.{IsEarly, Runs, RunStep, EndsAt, kept_of, status_of};
 ghost use Rattle.wc_loop.specs.Endings.{KeepsText, HoldsEarlier, FailsToSave, LastTurn};
+ghost use Rattle.wc_loop.specs.Endings.{ServedLast, SentLast};
 ghost use Rattle.wc_turns.specs.Saves.{SavesTurn};
 ghost use Rattle.wc_options.specs.Config.{config_of};
 ghost use Rattle.wc_core.specs.Limits.{port_of};
@@ -13,7 +14,6 @@ ghost use Rattle.wc_core.specs.Served.{Means};
 ghost use Rattle.wc_eval.specs.Verdicts.{Oracle};
 ghost use Rattle.wc_loop.specs.Headline.{state_before, held_if, IsFirst, IsConfigured};
 ghost use Rattle.wc_turns.specs.Parties.{IsCalm};
-ghost use Rattle.wc_turns.specs.Sources.{AllServed, AllSent};
 ghost use Rattle.wc_loop.specs.Words.{commands_of};
 ghost use Rattle.wc_turns.specs.Turns.{AgreesWithSockets};
 
@@ -131,10 +131,10 @@ fn take_turns<S: Sockets, K: Keeper>(
     ensures calm { IsCalm headless.new.core }
     ensures causes { 1 ≤ headless.new.turns → LastTurn headless.old headless.new
         (S.seen sockets.old) (S.seen sockets.new) }
-    ensures served { result ≡ TurnEnd.GoOn → 1 ≤ turns → AllServed headless.new
-        (S.seen sockets.old) (S.seen sockets.new) }
-    ensures sent { result ≡ TurnEnd.Quit → AllSent headless.new
-        (S.seen sockets.old) (S.seen sockets.new) }
+    ensures served { result ≡ TurnEnd.GoOn → 1 ≤ turns → ServedLast (S.seen sockets.old)
+        (S.seen sockets.new) headless.new }
+    ensures sent { result ≡ TurnEnd.Quit → SentLast (S.seen sockets.old) (S.seen sockets.new)
+        headless.new }
     ensures quit { result ≡ TurnEnd.Quit → headless.new.core.quits ≡ true }
     ensures going { result ≢ TurnEnd.Quit → result ≢ TurnEnd.ListenFault →
         result ≢ TurnEnd.KeeperFault → headless.new.core.quits ≡ false }

@@ -1,5 +1,7 @@
 -- What contracts see of a session.
-use Rattle.std.specs.Prelude.{ℕ, List, [], None, false}
+use Rattle.std.specs.Prelude.{ℕ, Bool, true, false, List, [], Option, Some, None}
+use Rattle.wc_relaycmd.specs.declared.algorithm.Algorithm.{Algorithm}
+use Rattle.wc_relaycmd.specs.declared.algorithm.Algorithm.TheVariants as algorithm
 use Rattle.wc_text.specs.declared.names.LinkId.{LinkId}
 use Rattle.wc_session.specs.declared.client.Client.{Client}
 use Rattle.wc_session.specs.Sync.{no_options}
@@ -23,3 +25,12 @@ new_client link nonce = record {
 
 abbrev pub new_session : LinkId → List ℕ → Known
 new_session link nonce = record { client = new_client link nonce; unsent = [] }
+
+-- whether a client is to prove by PBKDF2 that it knows the password
+abbrev pub proves_slowly : Option Algorithm → Bool
+proves_slowly None = false
+proves_slowly (Some algorithm.Plain) = false
+proves_slowly (Some algorithm.Sha256) = false
+proves_slowly (Some algorithm.Sha512) = false
+proves_slowly (Some algorithm.Pbkdf2Sha256) = true
+proves_slowly (Some algorithm.Pbkdf2Sha512) = true

@@ -3,7 +3,7 @@ ghost use Rattle.std.specs.Prelude.{IfOk, IsOk, OnOk, OnErr};
 ghost use Rattle.wc_hdata.specs.Dumps.{AreShort};
 ghost use Rattle.wc_objects.specs.declared.object.Object.{Object};
 ghost use Rattle.wc_relaycmd.specs.Utf8.{RequestIsUtf8};
-ghost use Rattle.wc_session.specs.Known.{new_session};
+ghost use Rattle.wc_session.specs.Known.{new_session, proves_slowly};
 ghost use Rattle.wc_session.specs.Event.{with_event};
 ghost use Rattle.wc_session.specs.Reply.{dump_asked, reply_of};
 ghost use Rattle.wc_session.specs.RequestContext.{context_seen};
@@ -21,7 +21,7 @@ use bytes::BytesMut;
 use std::alloc::Global;
 use std::marker::Model;
 use wc_model::EventKind;
-use wc_relaycmd::Request;
+use wc_relaycmd::{Algorithm, Request};
 use wc_text::{Handle, LinkId, NoMemory};
 use wc_world::World;
 
@@ -217,5 +217,15 @@ impl Session {
         ensures { result ≡ self.now.client.logged_in }
     {
         self.client.logged_in
+    }
+
+    /// Whether the client is to prove by PBKDF2 that it knows the password, which takes long to check.
+    pub fn proves_slowly(&self) -> bool
+        ensures { result ≡ proves_slowly self.now.client.chosen }
+    {
+        matches!(
+            self.client.chosen,
+            Some(Algorithm::Pbkdf2Sha256 | Algorithm::Pbkdf2Sha512)
+        )
     }
 }

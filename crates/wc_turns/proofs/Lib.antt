@@ -17,6 +17,7 @@ pub mod ForgetLemmas
 pub mod FramesLemmas
 pub mod GoesLemmas
 pub mod GoneLemmas
+pub mod GuestLemmas
 pub mod HandsLemmas
 pub mod HeardAgrees
 pub mod HeardLemmas

@@ -1,5 +1,5 @@
 -- What was saved is written at the end of a turn.
-use Rattle.std.proofs.Common.{◌≡◌, ◌≢◌, ◌≤◌, ℕ, inl, inr, false, List, Option, Some, None, IsSome, refl, sym, ap, ◌∙◌, subst, arith}
+use Rattle.std.proofs.Common.{◌≡◌, ◌≢◌, ◌≤◌, ℕ, inl, inr, Bool, false, List, Option, Some, None, IsSome, refl, sym, ap, ◌∙◌, subst, arith}
 use Rattle.std.proofs.lemmas.Bool.{false≢true}
 use Rattle.wc_outside.specs.Seen.{Seen}
 use Rattle.wc_core.specs.CoreView.{CoreView}
@@ -10,10 +10,12 @@ use Rattle.wc_turns.specs.declared.links.Closed.{Closed}
 use Rattle.wc_turns.specs.declared.turn.TurnEnd.{TurnEnd}
 use Rattle.wc_turns.specs.declared.turn.TurnEnd.TheVariants.{GoOn, Quit, WaitFault, ListenFault, KeeperFault}
 use Rattle.wc_turns.specs.Saves.{held_by, WritesText, SavesTurn, written_state}
-use Rattle.wc_turns.specs.Sources.{IsWritten}
+use Rattle.wc_turns.specs.Sources.{IsWritten, IsServed, OneLogin, Reaches}
 use Rattle.wc_turns.specs.Turns.{AgreesWithSockets, LoopStep, CoreTakes, ClosesExactly, FaultsIn, moment, waits_then, faults_then}
 use Rattle.wc_turns.specs.Waits.{LosesNone}
-use Rattle.wc_turns.proofs.TurnLemmas.{LoopStep-as}
+use Rattle.wc_turns.proofs.TurnLemmas.{LoopStep-as, LoopStep-wider}
+use Rattle.wc_turns.proofs.CloseLemmas.{LoopStep-refl}
+use Rattle.wc_turns.proofs.GuestLemmas.{Reaches-trans, OneLogin-later}
 use Rattle.wc_turns.proofs.GoesLemmas.{Goes-then, Goes-kept}
 
 -- ---- nothing else changes as it is written
@@ -79,6 +81,17 @@ loses-written x h l = record { opened = l.opened; came = l.came }
 pub sent-written : (link : ℕ) (h : Headless) (seen : Seen) → IsWritten link h seen → IsWritten link (written_state h) seen
 sent-written link h seen (inl clear) = inl (record { left = clear.left; put = clear.put })
 sent-written link h seen (inr blocked) = inr blocked
+
+-- what is written is no more than that, so the loop goes on to it
+reaches-written : (h : Headless) (a : Seen) → Reaches h (written_state h) a a
+reaches-written h a = record { waits = 0; faults = 0; step = step-written h h a a (LoopStep-wider h h a a (LoopStep-refl h a)) }
+
+pub served-written : (link : ℕ) (x h : Headless) (a b : Seen) → IsServed link x h a b → IsServed link x (written_state h) a b
+served-written link x h a b (inl read) = inl read
+served-written link x h a b (inr w) = inr (record { mid = w.mid; seen = w.seen; decided = w.decided; guest = w.guest; last = Reaches-trans w.mid h (written_state h) w.seen b b w.last (reaches-written h b) })
+
+pub once-written : (d : Bool) (x h : Headless) (a b : Seen) → OneLogin d x h a b → OneLogin d x (written_state h) a b
+once-written d x h a b once = OneLogin-later d x h (written_state h) a b b once (record { bytes = λ t link. refl }) (reaches-written h b)
 
 -- ---- the turn
 

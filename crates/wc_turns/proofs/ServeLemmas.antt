@@ -22,14 +22,15 @@ use Rattle.wc_turns.specs.Framed.{frames_in}
 use Rattle.wc_turns.specs.Links.{link_number, is_undrained, is_blocked, frames_of, is_socket_at}
 use Rattle.wc_framing.proofs.MessagesLemmas.{none_short}
 use Rattle.wc_turns.specs.Parties.{unsent_on, IsCalm}
-use Rattle.wc_turns.specs.Sources.{bytes_taken, arrivals, NothingBecameReady, IsServed, IsHeard, IsPutWhere, IsClear, IsWritten, IsSent, AllServed, AllSent, ServesNamed, TakesWithin, TakesNothing, has_flag, may_write, may_write_seat, may_write_these, may_write_frames, may_write_on, is_left_over}
+use Rattle.wc_turns.specs.Sources.{bytes_taken, arrivals, NothingBecameReady, IsServed, IsServedAfter, Reaches, HasDecided, IsHeard, IsPutWhere, IsClear, IsWritten, IsSent, AllServed, AllSent, ServesNamed, TakesWithin, TakesNothing, has_flag, may_write, may_write_seat, may_write_these, may_write_frames, may_write_on, is_left_over}
 use Rattle.wc_turns.specs.Turns.{AgreesWithSockets, LoopStep, faults_of, left_as, left_on}
 use Rattle.wc_turns.proofs.KeyedLemmas.{at_key-key}
 use Rattle.wc_turns.proofs.CauseLemmas.{gained-later, gained-following}
 use Rattle.wc_turns.proofs.ContainedLemmas.{KeepsLinks-refl, KeepsLinks-trans}
 use Rattle.wc_turns.proofs.CloseLemmas.{LoopStep-refl}
 use Rattle.wc_turns.proofs.TurnLemmas.{LoopStep-trans, LoopStep-following}
-use Rattle.wc_turns.proofs.SourceLemmas.{Later, later-of, NothingBecameReady-refl, NothingBecameReady-trans, IsServed-later, IsServed-following, IsServed-drained, IsHeard-later, IsHeard-following}
+use Rattle.wc_turns.proofs.GuestLemmas.{Reaches-of, ServedAfter-later, ServedAfter-next, IsServed-later, IsServed-following}
+use Rattle.wc_turns.proofs.SourceLemmas.{Later, later-of, NothingBecameReady-refl, NothingBecameReady-trans, IsReadUp-drained, IsHeard-later, IsHeard-following}
 
 -- ---- what a call answers
 
@@ -265,22 +266,23 @@ one-of tokens next link result (inl e) before here = rw e before
 one-of tokens next link result (inr e) before here = rw e here
 
 -- one more link was served
-pub served-next : (k last link : ℕ) (a b c : Seen) → Later a b → Later b c → NothingBecameReady b c → (k ≤ last → IsServed k a b) → (last < k → k < link → b.undrained k ≡ false) → IsServed link b c → k ≤ link → IsServed k a c
-served-next k last link a b c first later falls low between done most = go (eqb k link) refl
+pub served-next : (early now : Bool) (k last link : ℕ) (x y z : Headless) (a b c : Seen) → Reaches x y a b → Reaches y z b c → NothingBecameReady b c → (now ≡ true → (early ≡ true) ⊎ HasDecided x y a b) → (k ≤ last → IsServedAfter early k x y a b)
+    → (last < k → k < link → b.undrained k ≡ false) → IsServedAfter now link y z b c → k ≤ link → IsServedAfter early k x z a c
+served-next early now k last link x y z a b c first next falls decided low between done most = go (eqb k link) refl
   where
-    before : k ≢ link → (t : Bool) → nat_lt last k ≡ t → IsServed k a b
-    before n true e = IsServed-drained k a b (between (grind (arith, nat_tests)) (grind (arith, nat_tests)))
+    before : k ≢ link → (t : Bool) → nat_lt last k ≡ t → IsServedAfter early k x y a b
+    before n true e = inl (IsReadUp-drained k a b (between (grind (arith, nat_tests)) (grind (arith, nat_tests))))
     before n false e = low (grind (arith, nat_tests))
 
-    go : (t : Bool) → eqb k link ≡ t → IsServed k a c
-    go true e = let same : link ≡ k = grind (arith, nat_tests) in IsServed-following k a b c first later (subst (λ j. IsServed j b c) same done)
-    go false e = IsServed-later k a b c (before (λ q. grind (arith, nat_tests)) (nat_lt last k) refl) falls later
+    go : (t : Bool) → eqb k link ≡ t → IsServedAfter early k x z a c
+    go true e = let same : link ≡ k = grind (arith, nat_tests) in ServedAfter-next early now k x y z a b c first next decided (subst (λ j. IsServedAfter now j y z b c) same done)
+    go false e = ServedAfter-later early k x y z a b c (before (λ q. grind (arith, nat_tests)) (nat_lt last k) refl) falls next
 
-pub served-rest : (k last : ℕ) (a b : Seen) → (k ≤ last → IsServed k a b) → (last < k → b.undrained k ≡ false) → IsServed k a b
-served-rest k last a b low above = go (nat_lt last k) refl
+pub served-rest : (early : Bool) (k last : ℕ) (x y : Headless) (a b : Seen) → (k ≤ last → IsServedAfter early k x y a b) → (last < k → b.undrained k ≡ false) → IsServedAfter early k x y a b
+served-rest early k last x y a b low above = go (nat_lt last k) refl
   where
-    go : (t : Bool) → nat_lt last k ≡ t → IsServed k a b
-    go true e = IsServed-drained k a b (above (grind (arith, nat_tests)))
+    go : (t : Bool) → nat_lt last k ≡ t → IsServedAfter early k x y a b
+    go true e = inl (IsReadUp-drained k a b (above (grind (arith, nat_tests))))
     go false e = low (grind (arith, nat_tests))
 
 -- a call that takes bytes of one link alone
@@ -396,7 +398,7 @@ Named-link-again front all link faults x y a b more named h = record {
 
 -- a link is read
 pub Named-link : (front all : List Token) (link : LinkId) (faults : ℕ) (x y z : Headless) (a b c : Seen) → IsMore front all (Link link) → list_any (is_link link.0) front ≡ false → y.core.quits ≡ false → ServesNamed front faults x y a b
-    → LoopStep true 0 0 y z b c → IsCalm z.core → NothingBecameReady b c → KeepsLinks y z → (AgreesWithSockets y b → z.core.quits ≡ false → IsServed link.0 b c) → TakesOf link.0 b c → ServesNamed all faults x z a c
+    → LoopStep true 0 0 y z b c → IsCalm z.core → NothingBecameReady b c → KeepsLinks y z → (AgreesWithSockets x a → z.core.quits ≡ false → IsServed link.0 x z a c) → TakesOf link.0 b c → ServesNamed all faults x z a c
 Named-link front all link faults x y z a b c more out going h continues calm falls contained served takes =
     let later = later-of b c continues in
     record {
@@ -405,8 +407,8 @@ Named-link front all link faults x y z a b c more out going h continues calm fal
       falls = NothingBecameReady-trans a b c h.falls falls;
       contained = λ s. KeepsLinks-trans x y z (h.contained s) contained;
       served = λ s q k i. in-more (is_link k) front all (Link link) _ more
-          (λ p. IsServed-later k a b c (h.served s going k p) falls later)
-          (λ e p. subst (λ j. IsServed j a c) (is_link-same k link.0 p) (IsServed-following link.0 a b c (later-of a b h.continues) later (served (h.continues.agrees s) q))) i;
+          (λ p. IsServed-later k x y z a b c (h.served s going k p) falls (Reaches-of y z b c continues))
+          (λ e p. subst (λ j. IsServed j x z a c) (is_link-same k link.0 p) (served s q)) i;
       heard = λ f q i. in-more is_listener front all (Link link) _ more (λ p. IsHeard-later a b c (h.heard f going p) falls later) (λ e p. absurd (false≢true p)) i;
       failed = λ f. ((let p = (h.failed f).0 in let q = continues.counts.listens in omega arith), still-more is_listener front all (Link link) more (h.failed f).1);
       most = λ t k. most k t (eqb k link.0) refl;
@@ -442,7 +444,7 @@ Named-listener r front all faults x y z a b c more out going h continues calm fa
       calm = calm;
       falls = NothingBecameReady-trans a b c h.falls falls;
       contained = λ s. KeepsLinks-trans x y z (h.contained s) (contained (h.continues.agrees s));
-      served = λ s q k i. in-more (is_link k) front all Listener _ more (λ p. IsServed-later k a b c (h.served s going k p) falls later) (λ e p. absurd (false≢true p)) i;
+      served = λ s q k i. in-more (is_link k) front all Listener _ more (λ p. IsServed-later k x y z a b c (h.served s going k p) falls (Reaches-of y z b c continues)) (λ e p. absurd (false≢true p)) i;
       heard = λ f q i. IsHeard-following a b c first later (heard-of r _ f heard);
       failed = λ f. ((let p = failed-of r _ f failed in let q = h.continues.counts.listens in omega arith), more.any is_listener ∙ ap (λ b. b || true) out);
       most = λ t k. (let same = bytes t k in let few = h.most (later.told t) k in omega arith);
@@ -486,10 +488,10 @@ any-take p (suc i) (token ∷ tokens) h = go (p token) refl h (any-take p i toke
 
 -- ---- all sources
 
-pub AllServed-following : (x : Headless) (a b c : Seen) → Later a b → Later b c → AllServed x b c → AllServed x a c
-AllServed-following x a b c first later h = record {
-  links = λ k one. IsServed-following k a b c first later (h.links k one);
-  listener = IsHeard-following a b c first later h.listener;
+pub AllServed-following : (x y z : Headless) (a b c : Seen) → Reaches x y a b → Reaches y z b c → AllServed y z b c → AllServed x z a c
+AllServed-following x y z a b c first next h = record {
+  links = λ k one. IsServed-following k x y z a b c first next (h.links k one);
+  listener = IsHeard-following a b c (later-of a b first.step) (later-of b c next.step) h.listener;
   written = h.written;
 }
 
@@ -517,10 +519,10 @@ Within-all tokens faults x y a b c d h first later within clients bytes few name
 }
 
 -- the links that a wait named and those that it did not name are served
-pub served-all : (tokens : List Token) (k : ℕ) (a b c : Seen) → Later a b → Later b c → NothingBecameReady b c → (IsTrue (list_any (is_link k) tokens) → IsServed k a b) → (list_any (is_link k) tokens ≡ false → IsServed k b c) → IsServed k a c
-served-all tokens k a b c first later falls named others = reported-or (list_any (is_link k) tokens) (IsServed k a c)
-    (λ here. IsServed-later k a b c (named here) falls later)
-    (λ out. IsServed-following k a b c first later (others out))
+pub served-all : (tokens : List Token) (k : ℕ) (x y z : Headless) (a b c : Seen) → Reaches y z b c → NothingBecameReady b c → (IsTrue (list_any (is_link k) tokens) → IsServed k x y a b) → (list_any (is_link k) tokens ≡ false → IsServed k x z a c) → IsServed k x z a c
+served-all tokens k x y z a b c next falls named others = reported-or (list_any (is_link k) tokens) (IsServed k x z a c)
+    (λ here. IsServed-later k x y z a b c (named here) falls next)
+    others
 
 pub heard-all : (tokens : List Token) (a b c d : Seen) → Later a b → Later b c → Later c d → NothingBecameReady b c → NothingBecameReady c d → (IsTrue (list_any is_listener tokens) → IsHeard a b) → (list_any is_listener tokens ≡ false → IsHeard c d) → Later a c → IsHeard a d
 heard-all tokens a b c d first second third falls falls' named others both = reported-or (list_any is_listener tokens) (IsHeard a d)

@@ -19,7 +19,7 @@ use Rattle.wc_turns.specs.Framed.{frames_in}
 use Rattle.wc_turns.specs.Links.{link_number, frames_of, is_socket_at}
 use Rattle.wc_turns.specs.Events.{bytes_on}
 use Rattle.wc_turns.specs.Parties.{unsent_on}
-use Rattle.wc_turns.specs.Sources.{bytes_taken, arrivals, NothingBecameReady, IsServed, IsHeard, IsPut, IsWritten, TakesNothing}
+use Rattle.wc_turns.specs.Sources.{bytes_taken, arrivals, NothingBecameReady, IsReadUp, IsHeard, IsPut, IsWritten, TakesNothing}
 use Rattle.wc_turns.specs.Turns.{LoopStep, left_as, left_on}
 
 -- what was taken goes on
@@ -65,14 +65,14 @@ pub NothingBecameReady-listened : (a b : Seen) (f : Bool) → ((k : ℕ) → b.u
 NothingBecameReady-listened a b f undrained listening = record { undrained = λ k e. sym (undrained k) ∙ e; listening = λ e. and-first _ f (sym listening ∙ e) }
 
 -- a source that was served stays served, and what was served after is served
-pub IsServed-later : (k : ℕ) (a b c : Seen) → IsServed k a b → NothingBecameReady b c → Later b c → IsServed k a c
-IsServed-later k a b c h falls later = λ t e. (let p = h (later.told t) (falls.undrained k e) in let q = bytes-later k b c later t in omega arith)
+pub IsReadUp-later : (k : ℕ) (a b c : Seen) → IsReadUp k a b → NothingBecameReady b c → Later b c → IsReadUp k a c
+IsReadUp-later k a b c h falls later = λ t e. (let p = h (later.told t) (falls.undrained k e) in let q = bytes-later k b c later t in omega arith)
 
-pub IsServed-following : (k : ℕ) (a b c : Seen) → Later a b → Later b c → IsServed k b c → IsServed k a c
-IsServed-following k a b c first later h = λ t e. (let p = bytes-later k a b first (later.told t) in let q = h t e in omega arith)
+pub IsReadUp-following : (k : ℕ) (a b c : Seen) → Later a b → Later b c → IsReadUp k b c → IsReadUp k a c
+IsReadUp-following k a b c first later h = λ t e. (let p = bytes-later k a b first (later.told t) in let q = h t e in omega arith)
 
-pub IsServed-drained : (k : ℕ) (a b : Seen) → b.undrained k ≡ false → IsServed k a b
-IsServed-drained k a b drained = λ t e. absurd (false≢true (sym drained ∙ e))
+pub IsReadUp-drained : (k : ℕ) (a b : Seen) → b.undrained k ≡ false → IsReadUp k a b
+IsReadUp-drained k a b drained = λ t e. absurd (false≢true (sym drained ∙ e))
 
 pub IsHeard-later : (a b c : Seen) → IsHeard a b → NothingBecameReady b c → Later b c → IsHeard a c
 IsHeard-later a b c h falls later = λ t e. (let p = h (later.told t) (falls.listening e) in let q = arrivals-later b c later t in omega arith)

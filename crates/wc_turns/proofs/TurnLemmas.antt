@@ -317,7 +317,7 @@ LoopStep-as {w} x y z a b turns starved closes servers quits agrees takes h = re
   goes = λ t s. takes s.history h.closed h.heard (h.goes t s);
 }
 
-pub LoopStep-wider : {n f : ℕ} (x y : Headless) (a b : Seen) → LoopStep true n f x y a b → LoopStep false n f x y a b
+pub LoopStep-wider : {w : Bool} {n f : ℕ} (x y : Headless) (a b : Seen) → LoopStep w n f x y a b → LoopStep false n f x y a b
 LoopStep-wider x y a b h = LoopStep-as x y y a b refl refl refl refl (λ over. over) (λ s. (s, refl)) (λ past closed more takes. takes) h
 
 -- a turn begins, and what it closes then goes on

@@ -7,6 +7,7 @@ mod feed;
 mod headless;
 mod line_buffer;
 mod links;
+mod logins;
 mod serve;
 mod sockets;
 mod tail;

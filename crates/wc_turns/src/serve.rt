@@ -9,25 +9,34 @@ ghost use Rattle.wc_turns.specs.Contained.{KeepsLinks};
 ghost use Rattle.wc_turns.specs.Links.{link_number};
 ghost use Rattle.wc_turns.specs.Parties.{IsCalm};
 ghost use Rattle.wc_servers.specs.Seats.{seat_link};
-ghost use Rattle.wc_turns.specs.Sources.{NothingBecameReady, IsServed, IsHeard, IsWritten};
+ghost use Rattle.wc_turns.specs.Sources.{NothingBecameReady, IsServedAfter, IsHeard, IsWritten};
+ghost use Rattle.wc_turns.specs.Sources.{HasDecided, ReadsGuests, OneLogin};
 ghost use Rattle.wc_turns.specs.Sources.{AllServed, AllSent, ServesNamed, ServesSources, TakesWithin};
 ghost use Rattle.wc_turns.specs.Sources.{TakesNothing, bytes_taken, arrivals, has_flag, may_write};
 ghost use Rattle.wc_turns.specs.Sources.{may_write_seat, may_write_party, may_write_frames};
 ghost use Rattle.wc_turns.specs.Sources.{may_write_on, is_left_over};
 ghost use Rattle.wc_turns.specs.Turns.{LoopStep, AgreesWithSockets, faults_of};
 
-use crate::connect::stand_link;
 use crate::headless::Headless;
 use crate::links::{LinkState, Links};
-use crate::turns::{accept_all, read_link, send_link, write_link};
+use crate::logins::{Order, serve_in_turn};
+use crate::turns::{accept_all, send_link, write_link};
 use wc_core::{Connection, Core};
 use wc_framing::Framing;
 use wc_outside::{Failed, Ready, Sockets, Token};
 use wc_servers::Seat;
 use wc_text::LinkId;
 
+/// What serving the sources that a wait named came to.
+struct Named {
+    /// Whether the listener failed.
+    listened: Result<(), Failed>,
+    /// Whether a login was decided.
+    decided: bool,
+}
+
 /// The lesser one of two links, where it is above the last one.
-fn lesser(next: Option<LinkId>, link: LinkId, last: u64) -> Option<LinkId>
+pub(crate) fn lesser(next: Option<LinkId>, link: LinkId, last: u64) -> Option<LinkId>
     ensures above { IfSome next (λ known. last < known.0) →
         IfSome result (λ least. last < least.0) }
     ensures other { IfSome result (λ least. (other : ℕ) → last < other → other < least.0 →
@@ -188,7 +197,7 @@ fn is_listener_named(tokens: &[Token]) -> bool
 }
 
 /// Whether a link is not drained, and these tokens do not name it.
-fn is_left_over(state: &LinkState, tokens: &[Token]) -> bool
+pub(crate) fn is_left_over(state: &LinkState, tokens: &[Token]) -> bool
     ensures { result ≡ is_left_over tokens.now state.now }
 {
     state.undrained && !is_named(tokens, state.link)
@@ -261,39 +270,9 @@ fn send_all<S: Sockets>(headless: &mut Headless, sockets: &mut S)
     }
 }
 
-/// Serves a link that is ready: asks whether it stands, where that is not known, and reads it.
-fn serve_link<S: Sockets>(headless: &mut Headless, sockets: &mut S, link: LinkId)
-    requires agrees { AgreesWithSockets headless.old (S.seen sockets.old) }
-    requires calm { IsCalm headless.old.core }
-    requires going { headless.old.core.quits ≡ false }
-    ensures continues { LoopStep true 0 0 headless.old headless.new (S.seen sockets.old)
-        (S.seen sockets.new) }
-    ensures calm { IsCalm headless.new.core }
-    ensures falls { NothingBecameReady (S.seen sockets.old) (S.seen sockets.new) }
-    ensures served { headless.new.core.quits ≡ false →
-        IsServed link.0 (S.seen sockets.old) (S.seen sockets.new) }
-    ensures within { IsTrue (S.seen sockets.new).tells →
-        bytes_taken link.0 (S.seen sockets.new).taken ≤ bytes_taken link.0
-        (S.seen sockets.old).taken + 1048576 }
-    ensures others { IsTrue (S.seen sockets.new).tells → (other : ℕ) → other ≢ link.0 →
-        bytes_taken other (S.seen sockets.new).taken ≡ bytes_taken other
-        (S.seen sockets.old).taken }
-    ensures clients { IsTrue (S.seen sockets.new).tells → arrivals (S.seen sockets.new).taken
-        ≡ arrivals (S.seen sockets.old).taken }
-    ensures contained { KeepsLinks headless.old headless.new }
-{
-    if !headless.links.is_connecting(link) {
-        read_link(headless, sockets, link);
-        return;
-    }
-    if stand_link(headless, sockets, link) {
-        read_link(headless, sockets, link);
-    }
-}
-
 /// Reads the links that an earlier turn left undrained and that these tokens do not name, in the
-/// order of their numbers, unless `/quit` is run.
-fn read_rest<S: Sockets>(headless: &mut Headless, sockets: &mut S, tokens: &[Token])
+/// order of their numbers, unless `/quit` is run. Those of guests are left where a login was decided.
+fn read_rest<S: Sockets>(headless: &mut Headless, sockets: &mut S, tokens: &[Token], decided: bool)
     requires agrees { AgreesWithSockets headless.old (S.seen sockets.old) }
     requires calm { IsCalm headless.old.core }
     requires going { headless.old.core.quits ≡ false }
@@ -304,7 +283,10 @@ fn read_rest<S: Sockets>(headless: &mut Headless, sockets: &mut S, tokens: &[Tok
     ensures falls { NothingBecameReady (S.seen sockets.old) (S.seen sockets.new) }
     ensures served { AgreesWithSockets headless.old (S.seen sockets.old) → headless.new.core.quits
         ≡ false → (link : ℕ) → 1 ≤ link → list_any (is_link link) tokens.now ≡ false →
-        IsServed link (S.seen sockets.old) (S.seen sockets.new) }
+        IsServedAfter decided link headless.old headless.new (S.seen sockets.old)
+        (S.seen sockets.new) }
+    ensures once { OneLogin decided headless.old headless.new (S.seen sockets.old)
+        (S.seen sockets.new) }
     ensures most { IsTrue (S.seen sockets.new).tells → (link : ℕ) →
         bytes_taken link (S.seen sockets.new).taken ≤ bytes_taken link (S.seen sockets.old).taken
         + 1048576 }
@@ -315,32 +297,34 @@ fn read_rest<S: Sockets>(headless: &mut Headless, sockets: &mut S, tokens: &[Tok
         ≡ arrivals (S.seen sockets.old).taken }
 {
     let mut last = 0;
+    let mut decided = decided;
     while let Some(link) = next_undrained(headless.links(), tokens, last) {
         if headless.core.quits() {
             return;
         }
-        serve_link(headless, sockets, link);
+        decided = serve_in_turn(headless, sockets, link, decided);
         last = link.0;
     }
 }
 
 /// Serves the sources that tokens name, in order and each once, unless `/quit` is run. The listener
-/// may fail.
-pub(crate) fn serve_tokens<S: Sockets>(
-    headless: &mut Headless,
-    sockets: &mut S,
-    tokens: &[Token],
-) -> Result<(), Failed>
+/// may fail. Guests wait once a login was decided.
+fn serve_tokens<S: Sockets>(headless: &mut Headless, sockets: &mut S, tokens: &[Token]) -> Named
     requires agrees { AgreesWithSockets headless.old (S.seen sockets.old) }
     requires calm { IsCalm headless.old.core }
     requires going { headless.old.core.quits ≡ false }
-    ensures { ServesNamed tokens.now (faults_of result) headless.old headless.new
+    ensures serves { ServesNamed tokens.now (faults_of result.listened) headless.old headless.new
+        (S.seen sockets.old) (S.seen sockets.new) }
+    ensures decides { result.decided ≡ true → HasDecided headless.old headless.new
+        (S.seen sockets.old) (S.seen sockets.new) }
+    ensures once { ReadsGuests false result.decided headless.old headless.new
         (S.seen sockets.old) (S.seen sockets.new) }
 {
     let mut listened = Ok(());
+    let mut decided = false;
     for place in 0..tokens.len() {
         if headless.core.quits() {
-            return listened;
+            return Named { listened, decided };
         }
         let before = &tokens[..place];
         match tokens[place] {
@@ -351,12 +335,12 @@ pub(crate) fn serve_tokens<S: Sockets>(
             }
             Token::Link(link) => {
                 if !is_named(before, link) {
-                    serve_link(headless, sockets, link);
+                    decided = serve_in_turn(headless, sockets, link, decided);
                 }
             }
         }
     }
-    listened
+    Named { listened, decided }
 }
 
 /// Takes the arrivals that an earlier turn left, where these tokens do not name the listener.
@@ -406,11 +390,11 @@ fn serve_sources<S: Sockets>(
     ensures { ServesSources (faults_of result) headless.old headless.new (S.seen sockets.old)
         (S.seen sockets.new) }
 {
-    let listened = serve_tokens(headless, sockets, tokens);
+    let Named { listened, decided } = serve_tokens(headless, sockets, tokens);
     if headless.core.quits() {
         return listened;
     }
-    read_rest(headless, sockets, tokens);
+    read_rest(headless, sockets, tokens, decided);
     if listened.is_err() {
         return listened;
     }
@@ -476,15 +460,18 @@ pub fn serve_ready<S: Sockets>(
     ensures contained { AgreesWithSockets headless.old (S.seen sockets.old) →
         KeepsLinks headless.old headless.new }
     ensures served { OnOk result (AgreesWithSockets headless.old (S.seen sockets.old) →
-        headless.new.core.quits ≡ false → AllServed headless.new
+        headless.new.core.quits ≡ false → AllServed headless.old headless.new
         (S.seen sockets.old) (S.seen sockets.new)) }
     ensures sent { AgreesWithSockets headless.old (S.seen sockets.old) → headless.new.core.quits
         ≡ true → AllSent headless.new (S.seen sockets.old) (S.seen sockets.new) }
     ensures failed { OnErr result (Rose (S.seen sockets.old).faults.listens
         (S.seen sockets.new).faults.listens) }
     ensures within { TakesWithin (S.seen sockets.old) (S.seen sockets.new) }
+    ensures once { OneLogin false headless.old headless.new (S.seen sockets.old)
+        (S.seen sockets.new) }
 {
-    let listened = serve_unless_quit(headless, sockets, &ready.tokens[..ready.count]);
+    let order = Order::of(headless, ready);
+    let listened = serve_unless_quit(headless, sockets, order.as_slice());
     write_unsent(headless, sockets);
     listened
 }

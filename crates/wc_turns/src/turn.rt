@@ -33,7 +33,7 @@ fn any_undrained(states: &[LinkState]) -> bool
 impl Headless {
     ghost use Rattle.std.specs.Prelude.{true, false, IsTrue, OnOk, OnErr};
     ghost use Rattle.wc_turns.specs.Parties.{IsCalm};
-    ghost use Rattle.wc_turns.specs.Sources.{AllServed, AllSent, TakesWithin};
+    ghost use Rattle.wc_turns.specs.Sources.{AllServed, AllSent, TakesWithin, OneLogin};
     ghost use Rattle.wc_turns.specs.Turns.{AgreesWithSockets, LoopStep, HasCause, ClosesExactly};
     ghost use Rattle.wc_turns.specs.Turns.{waits_then, faults_then, TurnStep};
     ghost use Rattle.wc_turns.specs.Saves.{SavesTurn, WritesText, written_state};
@@ -65,8 +65,9 @@ impl Headless {
     /// are asked for after each event that may want one, and those that were refused before the
     /// wait are lost first. The wait does not block where a source was left undrained, and else for
     /// 100 ms at most. Where `/quit` is run, nothing more is read, and what is unsent is written
-    /// once. At its end the text that `/save` saved last, if it was run, takes the place of what the
-    /// keeper holds.
+    /// once. Of clients that did not log in none is read after one whose password took long to check:
+    /// they are read in the next turn, which does not wait. At its end the text that `/save` saved
+    /// last, if it was run, takes the place of what the keeper holds.
     ///
     /// The sockets are those that this state was made with, `/quit` was not run, and what was saved
     /// before is written.
@@ -81,11 +82,12 @@ impl Headless {
         ensures calm { IsCalm self.new.core }
         ensures causes { All (HasCause self.old self.new (S.seen sockets.old)
             (S.seen sockets.new)) self.new.links.closed.items }
-        ensures served { result ≡ TurnEnd.GoOn → AllServed self.new
+        ensures served { result ≡ TurnEnd.GoOn → AllServed self.old self.new
             (S.seen sockets.old) (S.seen sockets.new) }
         ensures sent { result ≡ TurnEnd.Quit →
             AllSent self.new (S.seen sockets.old) (S.seen sockets.new) }
         ensures within { TakesWithin (S.seen sockets.old) (S.seen sockets.new) }
+        ensures once { OneLogin false self.old self.new (S.seen sockets.old) (S.seen sockets.new) }
         ensures contained { LosesNone self.old self.new }
         ensures closes { ClosesExactly self.old self.new (S.seen sockets.old) (S.seen sockets.new) }
         ensures quit { result ≡ TurnEnd.Quit → self.new.core.quits ≡ true }
@@ -146,11 +148,12 @@ impl Headless {
         ensures calm { IsCalm self.new.core }
         ensures causes { All (HasCause self.old self.new (S.seen sockets.old)
             (S.seen sockets.new)) self.new.links.closed.items }
-        ensures served { result ≡ TurnEnd.GoOn → AllServed self.new
+        ensures served { result ≡ TurnEnd.GoOn → AllServed self.old self.new
             (S.seen sockets.old) (S.seen sockets.new) }
         ensures sent { result ≡ TurnEnd.Quit →
             AllSent self.new (S.seen sockets.old) (S.seen sockets.new) }
         ensures within { TakesWithin (S.seen sockets.old) (S.seen sockets.new) }
+        ensures once { OneLogin false self.old self.new (S.seen sockets.old) (S.seen sockets.new) }
         ensures contained { LosesNone self.old self.new }
         ensures closes { ClosesExactly self.old self.new (S.seen sockets.old) (S.seen sockets.new) }
         ensures quit { result ≡ TurnEnd.Quit → self.new.core.quits ≡ true }

@@ -7,7 +7,7 @@ ghost use Rattle.wc_turns.specs.Links.{IsStanding};
 ghost use Rattle.wc_turns.specs.Parts.{FailureIgnored, SendsOn, ClosesLeaving, HasFailed, ReadsOn};
 ghost use Rattle.wc_turns.specs.Parts.{ReadBytes, came_of};
 ghost use Rattle.wc_turns.specs.Parties.{IsCalm, closes_asked, party_count};
-ghost use Rattle.wc_turns.specs.Sources.{NothingBecameReady, IsServed, IsHeard, IsWritten, IsSent};
+ghost use Rattle.wc_turns.specs.Sources.{NothingBecameReady, IsReadUp, IsHeard, IsWritten, IsSent};
 ghost use Rattle.wc_turns.specs.Sources.{IsPut};
 ghost use Rattle.wc_turns.specs.Sources.{TakesNothing, bytes_taken, arrivals};
 ghost use Rattle.wc_turns.specs.Turns.{LoopStep, AgreesWithSockets, IsSettled, faults_of, left_on};
@@ -219,7 +219,7 @@ pub fn read_link<S: Sockets>(headless: &mut Headless, sockets: &mut S, link: Lin
     ensures calm { IsCalm headless.new.core }
     ensures falls { NothingBecameReady (S.seen sockets.old) (S.seen sockets.new) }
     ensures served { AgreesWithSockets headless.old (S.seen sockets.old) → headless.new.core.quits
-        ≡ false → IsServed link.0 (S.seen sockets.old) (S.seen sockets.new) }
+        ≡ false → IsReadUp link.0 (S.seen sockets.old) (S.seen sockets.new) }
     ensures within { IsTrue (S.seen sockets.new).tells →
         bytes_taken link.0 (S.seen sockets.new).taken ≤ bytes_taken link.0
         (S.seen sockets.old).taken + 1048576 }

@@ -2,11 +2,9 @@ use Rattle.std.proofs.Common.{◌≡◌, ◌++◌, [], ◌∷◌, map, IsTrue, r
 use Rattle.wc_outside.specs.declared.happening.Asked.TheVariants.{Listen, Connect}
 use Rattle.wc_loop.specs.Endings.{kept_of}
 use Rattle.wc_turns.specs.Turns.{wake_count, listen_faults}
-use Rattle.wc_loop.proofs.EndingLemmas.{Runs-early, Runs-following, known-readable, known-port, kept-text, not-keeper, keeper-of, kept_of-none, held-earlier, closes-last, none-asked}
+use Rattle.wc_loop.proofs.EndingLemmas.{Runs-early, Runs-following, known-readable, known-port, kept-text, not-keeper, keeper-of, kept_of-none, held-earlier, closes-last, last-since, none-asked}
 use Rattle.wc_loop.proofs.HeadlineLemmas.{AgreesWithSockets-first, Fresh-listening, HandsOut-run, Headline-known, IfSome-last, TakesEach-run}
 use Rattle.wc_loop.proofs.ProgramLemmas.{Rose-before, faults-told}
-use Rattle.wc_turns.proofs.ServeLemmas.{AllServed-following, AllSent-following}
-use Rattle.wc_turns.proofs.SourceLemmas.{later-of}
 use Rattle.wc_loop.proofs.run.run.Goals as goal
 
 pub returns-clause-runs : goal.returns-clause-runs
@@ -41,8 +39,8 @@ returns-clause-runs g c =
         unwoken = λ none. none-asked _ _ (sym (ran.continues.step.asked t) ∙ ran.unasked none t);
         is = ran.continues.step.asked t ∙ ap (λ xs. xs ++ map Connect ran.continues.step.connects) (heard (ran.continues.step.told t));
       };
-      served = λ q. AllServed-following c.take_turns-then.new.headless (seen c.args.sockets.now) (seen c.listen.new.self) (seen c.take_turns-then.new.sockets) (record { told = listened.told; more = []; taken = listened.taken }) (later-of _ _ ran.continues.step) (ran.served q c.requires.above);
-      sent = λ q. AllSent-following c.take_turns-then.new.headless (seen c.args.sockets.now) (seen c.listen.new.self) (seen c.take_turns-then.new.sockets) (record { told = listened.told; more = []; taken = listened.taken }) (later-of _ _ ran.continues.step) listened.counts (ran.sent q);
+      served = λ q. last-since _ _ _ _ listened.told (λ t. listened.taken t) (ran.served q c.requires.above);
+      sent = λ q. last-since _ _ _ _ listened.told (λ t. listened.taken t) (ran.sent q);
       left = λ above. record {
         headline = Headline-known _ _ c.in-Ok.made.headless _ _ _ c.in-Ok.ensures.known (λ t fed rows were judged. HandsOut-run c.in-Ok.made.headless c.take_turns-then.new.headless (seen c.listen.new.self) (seen c.take_turns-then.new.sockets) c.in-Ok.made.port ran.continues.step first fresh heard ran.calm t fed rows were judged);
         takes = TakesEach-run _ _ c.in-Ok.made.headless c.take_turns-then.new.headless (seen c.listen.new.self) (seen c.take_turns-then.new.sockets) c.in-Ok.made.port c.in-Ok.ensures.known ran.continues.step first fresh;

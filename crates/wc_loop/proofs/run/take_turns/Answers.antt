@@ -8,8 +8,6 @@ use Rattle.wc_core.specs.CoreView.{CoreView}
 use Rattle.wc_outside.specs.Faults.{Rose}
 use Rattle.wc_loop.proofs.HeadlineLemmas.{calm-first}
 use Rattle.wc_loop.proofs.ProgramLemmas.{LoopStep-turn, Rose-before, waits-few, unwoken-by, woke-once, unwaited}
-use Rattle.wc_turns.proofs.ServeLemmas.{AllServed-following, AllSent-following}
-use Rattle.wc_turns.proofs.SourceLemmas.{later-of}
 use Rattle.wc_loop.proofs.run.take_turns.Goals as goal
 
 pub loop-init : goal.loop-init
@@ -43,7 +41,16 @@ returns-in_default g c =
       calm = e.calm;
       causes = λ above. record { earlier = c.loop.headless; seen = seen c.loop.sockets; end = c.turn.result; waits = c.loop.counter; until = i.continues; agrees = i.agrees; calm = i.calm; turn = e.continues; causes = e.causes; closes = e.closes };
       served = λ q. absurd (c.in_default.not-GoOn q);
-      sent = λ q. AllSent-following c.turn.new.self (seen c.args.sockets.now) (seen c.loop.sockets) (seen c.turn.new.sockets) (later-of _ _ i.continues) (later-of _ _ e.continues.step) i.continues.counts (e.sent q);
+      sent = λ q. record {
+        earlier = c.loop.headless;
+        seen = seen c.loop.sockets;
+        told = i.continues.told;
+        gained = i.continues.gained;
+        taken = i.continues.taken;
+        agrees = i.agrees;
+        turn = subst (λ end. TurnStep end c.loop.headless c.turn.new.self (seen c.loop.sockets) (seen c.turn.new.sockets)) q e.continues;
+        did = e.sent q;
+      };
       quit = e.quit;
       going = λ quit listen keeper. unwoken-by c.turn.result _ c.in_default.not-GoOn quit listen keeper e.unwoken;
       all = λ q. absurd (c.in_default.not-GoOn q);
@@ -92,7 +99,7 @@ loop-preserved g c =
       calm = e.calm;
       going = e.goes_on refl;
       causes = λ above. record { earlier = c.loop.headless; seen = seen c.loop.sockets; end = GoOn; waits = c.loop.counter; until = i.continues; agrees = i.agrees; calm = i.calm; turn = e.continues; causes = e.causes; closes = e.closes };
-      served = λ one. AllServed-following c.turn.new.self (seen c.args.sockets.now) (seen c.loop.sockets) (seen c.turn.new.sockets) (later-of _ _ i.continues) (later-of _ _ e.continues.step) (e.served refl);
+      served = λ one. record { earlier = c.loop.headless; seen = seen c.loop.sockets; told = i.continues.told; gained = i.continues.gained; taken = i.continues.taken; agrees = i.agrees; turn = e.continues; did = e.served refl };
       written = e.written (λ q. cc);
       saves = λ first had. e.saves (λ q. cc) first (i.saves first had);
       unsaved = λ none. absurd (omega arith);

@@ -1,9 +1,8 @@
 use Rattle.std.proofs.Common.{◌≡◌, false, None, IsTrue, ◌≤◌}
 use Rattle.wc_turns.specs.Saves.{SavesTurn}
 use Rattle.wc_turns.specs.Parties.{IsCalm}
-use Rattle.wc_turns.specs.Sources.{AllServed}
 use Rattle.wc_turns.specs.Turns.{LoopStep, AgreesWithSockets}
-use Rattle.wc_loop.specs.Endings.{LastTurn}
+use Rattle.wc_loop.specs.Endings.{LastTurn, ServedLast}
 use Rattle.wc_loop.proofs.run.take_turns.Given as goal
 
 abbrev pub invariant-loop : goal.invariant-loop
@@ -13,7 +12,7 @@ invariant-loop g l = record {
   calm : IsCalm l.headless.core;
   going : l.headless.core.quits ≡ false;
   causes : 1 ≤ l.headless.turns → LastTurn l.fn.headless l.headless (g.S.Sockets.seen l.fn.sockets) (g.S.Sockets.seen l.sockets);
-  served : 1 ≤ l.counter → AllServed l.headless (g.S.Sockets.seen l.fn.sockets) (g.S.Sockets.seen l.sockets);
+  served : 1 ≤ l.counter → ServedLast (g.S.Sockets.seen l.fn.sockets) (g.S.Sockets.seen l.sockets) l.headless;
   written : l.headless.core.unwritten ≡ false;
   saves : SavesTurn l.fn.headless.core l.headless.core (g.K.Keeper.contents l.fn.keeper) (g.K.Keeper.contents l.keeper);
   unsaved : l.headless.turns ≡ 0 → l.headless.core.saved ≡ None;

@@ -1,7 +1,8 @@
-use Rattle.std.proofs.Common.{◌∙◌, sym, arith}
+use Rattle.std.proofs.Common.{◌∙◌, sym, false, arith}
 use Rattle.wc_turns.proofs.ContainedLemmas.{KeepsLinks-trans}
 use Rattle.wc_turns.proofs.TurnLemmas.{LoopStep-trans}
-use Rattle.wc_turns.proofs.SourceLemmas.{IsServed-later, IsHeard-later, later-of}
+use Rattle.wc_turns.proofs.GuestLemmas.{Reaches-of, IsServed-later, OneLogin-later, nothing-read}
+use Rattle.wc_turns.proofs.SourceLemmas.{IsHeard-later, later-of}
 use Rattle.wc_turns.proofs.ServeLemmas.{OnOk-by, OnErr-by, AllSent-following, Within-nothing}
 use Rattle.wc_turns.proofs.serve.serve_ready.Goals as goal
 
@@ -18,7 +19,7 @@ returns-clause-served g c =
     let between = g.S.Sockets.seen c.serve_unless_quit-listened.new.sockets in
     let after = g.S.Sockets.seen c.write_unsent.new.sockets in
     OnOk-by c.serve_unless_quit-listened.result _ (λ good agrees on. record {
-      links = λ k one. IsServed-later k before between after (s.served agrees (sym e.quits ∙ on) k one) (e.falls on) (later-of _ _ e.continues);
+      links = λ k one. IsServed-later k c.args.headless.now c.serve_unless_quit-listened.new.headless c.write_unsent.new.headless before between after (s.served agrees (sym e.quits ∙ on) k one) (e.falls on) (Reaches-of _ _ _ _ e.continues);
       listener = IsHeard-later before between after (s.heard good agrees (sym e.quits ∙ on)) (e.falls on) (later-of _ _ e.continues);
       written = e.written (s.continues.agrees agrees) on;
     })
@@ -41,3 +42,10 @@ returns-clause-failed g c =
     let s = c.serve_unless_quit-listened.ensures in
     let e = c.write_unsent.ensures in
     OnErr-by c.serve_unless_quit-listened.result _ (λ bad. (let p = s.failed bad in let q = e.continues.counts.listens in omega arith))
+
+pub returns-clause-once : goal.returns-clause-once
+returns-clause-once g c =
+    let e = c.write_unsent.ensures in
+    let seen = g.S.Sockets.seen in
+    OneLogin-later false c.args.headless.now c.serve_unless_quit-listened.new.headless c.write_unsent.new.headless (seen c.args.sockets.now) (seen c.serve_unless_quit-listened.new.sockets) (seen c.write_unsent.new.sockets) c.serve_unless_quit-listened.ensures.once
+    (nothing-read _ _ e.nothing) (Reaches-of _ _ _ _ e.continues)

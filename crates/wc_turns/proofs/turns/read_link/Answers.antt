@@ -2,7 +2,7 @@ use Rattle.std.proofs.Common.{refl, ap, sym, ◌∙◌, ◌+◌, length, take, d
 use Rattle.std.proofs.lemmas.List.{length-append, length-take, take-append-drop}
 use Rattle.wc_turns.proofs.TurnLemmas.{LoopStep-trans}
 use Rattle.wc_turns.proofs.CloseLemmas.{LoopStep-refl}
-use Rattle.wc_turns.proofs.SourceLemmas.{NothingBecameReady-trans, IsServed-drained}
+use Rattle.wc_turns.proofs.SourceLemmas.{NothingBecameReady-trans, IsReadUp-drained}
 use Rattle.wc_turns.proofs.ContainedLemmas.{KeepsLinks-refl, KeepsLinks-trans}
 use Rattle.wc_turns.proofs.ReadLemmas.{ReadsOn-refl, ReadsOn-trans}
 use Rattle.wc_turns.proofs.turns.read_link.Goals as goal
@@ -41,7 +41,7 @@ returns-in-None g c =
       calm = e.calm;
       contained = KeepsLinks-trans c.args.headless.now c.loop-left.headless c.read_once.new.headless i.contained e.contained;
       falls = NothingBecameReady-trans _ (seen c.loop-left.sockets) _ i.reads.falls e.reads.falls;
-      served = λ agrees on. IsServed-drained c.args.link.0 (seen c.args.sockets.now) (seen c.read_once.new.sockets) (e.drained c.in-None.is (i.continues.agrees agrees) on);
+      served = λ agrees on. IsReadUp-drained c.args.link.0 (seen c.args.sockets.now) (seen c.read_once.new.sockets) (e.drained c.in-None.is (i.continues.agrees agrees) on);
       within = λ t. (let before = i.bytes (e.continues.told t) in let now = e.within t in let most = i.most in let size = length-take c.min-room.result c.loop-left.buffer in omega arith);
       others = λ t k n. e.reads.others t k n ∙ i.reads.others (e.continues.told t) k n;
       clients = λ t. e.reads.clients t ∙ i.reads.clients (e.continues.told t);

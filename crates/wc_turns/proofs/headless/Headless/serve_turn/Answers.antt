@@ -2,6 +2,7 @@ use Rattle.std.proofs.Common.{refl, sym, ◌∙◌}
 use Rattle.wc_core.proofs.DidLemmas.{KeepsSaved-trans}
 use Rattle.wc_turns.proofs.ContainedLemmas.{KeepsLinks-refl}
 use Rattle.wc_turns.proofs.TurnLemmas.{turn-continues, turn-causes, turn-closes-exactly}
+use Rattle.wc_turns.proofs.GuestLemmas.{Reaches-of, OneLogin-none, OneLogin-first, nothing-read}
 use Rattle.wc_turns.proofs.SourceLemmas.{later-of}
 use Rattle.wc_turns.proofs.ServeLemmas.{AllServed-following, AllSent-following, Nothing-within}
 use Rattle.wc_turns.proofs.WaitLemmas.{Within-none, closes-unwoken, OnOk-get, OnErr-get, LoopStep-then, goes-on, quits-by, loses-none}
@@ -41,7 +42,7 @@ returns-clause-served g c = λ on.
     let e = c.serve_ready-listened.ensures in
     let seen = g.S.Sockets.seen in
     let goes = goes-on c.serve_ready-listened.result _ c.turn_end.result c.turn_end.ensures on in
-    AllServed-following c.serve_ready-listened.new.headless (seen c.args.sockets.now) (seen c.wake.new.sockets) (seen c.serve_ready-listened.new.sockets) (later-of _ _ woken.continues) (later-of _ _ e.continues)
+    AllServed-following c.args.self.now c.wake.new.self c.serve_ready-listened.new.headless (seen c.args.sockets.now) (seen c.wake.new.sockets) (seen c.serve_ready-listened.new.sockets) (Reaches-of _ _ _ _ woken.continues) (Reaches-of _ _ _ _ e.continues)
     (OnOk-get c.serve_ready-listened.result _ goes.0 e.served (woken.continues.agrees c.requires.agrees) goes.1)
 
 pub returns-clause-sent : goal.returns-clause-sent
@@ -84,3 +85,13 @@ pub returns-then-is_err-clause-causes : goal.returns-then-is_err-clause-causes
 returns-then-is_err-clause-causes g c =
     let woken = OnErr-get c.wake.result _ (sym c.is_err.ensures.value ∙ c.if-is_err.true) c.wake.ensures.failed in
     woken.causes c.requires.agrees
+
+pub returns-then-is_err-clause-once : goal.returns-then-is_err-clause-once
+returns-then-is_err-clause-once g c =
+    let woken = OnErr-get c.wake.result _ (sym c.is_err.ensures.value ∙ c.if-is_err.true) c.wake.ensures.failed in
+    OneLogin-none _ _ _ _ _ (nothing-read _ _ woken.nothing) (Reaches-of _ _ _ _ woken.continues)
+
+pub returns-clause-once : goal.returns-clause-once
+returns-clause-once g c =
+    let woken = OnOk-get c.wake.result _ (sym c.is_err.ensures.value ∙ c.if-is_err.false) c.wake.ensures.woken in
+    OneLogin-first _ _ _ _ _ _ _ (nothing-read _ _ woken.nothing) (Reaches-of _ _ _ _ woken.continues) c.serve_ready-listened.ensures.once

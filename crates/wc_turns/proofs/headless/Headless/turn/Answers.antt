@@ -6,7 +6,7 @@ use Rattle.wc_core.specs.Served.{unwritten_of}
 use Rattle.wc_turns.specs.Saves.{WritesText, written_state}
 use Rattle.wc_turns.proofs.CauseLemmas.{causes-as}
 use Rattle.wc_turns.specs.Turns.{LoopStep, faults_then}
-use Rattle.wc_turns.proofs.SaveLemmas.{agrees-written, step-written, closes-written, loses-written, sent-written, fits-then, faults-most, woke-once, saves-turn}
+use Rattle.wc_turns.proofs.SaveLemmas.{agrees-written, step-written, closes-written, loses-written, sent-written, served-written, once-written, fits-then, faults-most, woke-once, saves-turn}
 use Rattle.wc_turns.proofs.WaitLemmas.{OnOk-get, OnErr-get}
 use Rattle.wc_turns.proofs.headless.Headless.turn.Goals as goal
 
@@ -47,7 +47,17 @@ returns-then-is_err-clause-closes g c =
     let stays = OnErr-get c.save.result _ (sym c.is_err.ensures.value ∙ c.if-is_err.true) c.save.ensures.kept in
     rw stays c.serve_turn-end.ensures.closes
 
+pub returns-then-is_err-clause-once : goal.returns-then-is_err-clause-once
+returns-then-is_err-clause-once g c =
+    let stays = OnErr-get c.save.result _ (sym c.is_err.ensures.value ∙ c.if-is_err.true) c.save.ensures.kept in
+    rw stays c.serve_turn-end.ensures.once
+
 -- ---- it did not
+
+pub returns-clause-once : goal.returns-clause-once
+returns-clause-once g c =
+    let states = OnOk-get c.save.result _ (sym c.is_err.ensures.value ∙ c.if-is_err.false) c.save.ensures.states in
+    rw states (once-written false c.args.self.now c.serve_turn-end.new.self (g.S.Sockets.seen c.args.sockets.now) (g.S.Sockets.seen c.serve_turn-end.new.sockets) c.serve_turn-end.ensures.once)
 
 pub returns-clause-continues : goal.returns-clause-continues
 returns-clause-continues g c =
@@ -77,7 +87,7 @@ returns-clause-causes g c =
 pub returns-clause-served : goal.returns-clause-served
 returns-clause-served g c =
     let states = OnOk-get c.save.result _ (sym c.is_err.ensures.value ∙ c.if-is_err.false) c.save.ensures.states in
-    rw states (λ on. (let served = c.serve_turn-end.ensures.served on in record { links = served.links; listener = served.listener; written = λ link one. sent-written link c.serve_turn-end.new.self (g.S.Sockets.seen c.serve_turn-end.new.sockets) (served.written link one) }))
+    rw states (λ on. (let served = c.serve_turn-end.ensures.served on in record { links = λ link one. served-written link c.args.self.now c.serve_turn-end.new.self (g.S.Sockets.seen c.args.sockets.now) (g.S.Sockets.seen c.serve_turn-end.new.sockets) (served.links link one); listener = served.listener; written = λ link one. sent-written link c.serve_turn-end.new.self (g.S.Sockets.seen c.serve_turn-end.new.sockets) (served.written link one) }))
 
 pub returns-clause-sent : goal.returns-clause-sent
 returns-clause-sent g c =

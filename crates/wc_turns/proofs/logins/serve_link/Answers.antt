@@ -1,6 +1,6 @@
 use Rattle.std.proofs.Common.{◌∙◌, arith}
 use Rattle.wc_turns.proofs.TurnLemmas.{LoopStep-trans}
-use Rattle.wc_turns.proofs.serve.serve_link.Goals as goal
+use Rattle.wc_turns.proofs.logins.serve_link.Goals as goal
 
 pub returns-then-stand_link-clause-continues : goal.returns-then-stand_link-clause-continues
 returns-then-stand_link-clause-continues g c =
