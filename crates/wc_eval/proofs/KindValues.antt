@@ -1,5 +1,5 @@
 -- The values of forms by their kind.
-use Rattle.std.proofs.Common.{◌≡◌, ℕ, zero, suc, ◌<◌, ◌≤◌, Bool, true, false, List, [], ◌∷◌, length, get_or, All}
+use Rattle.std.proofs.Common.{◌≡◌, ℕ, zero, suc, ◌<◌, Bool, true, false, List, [], ◌∷◌, length, get_or, All}
 use Rattle.std.proofs.Common.{Option, Some, None, option_map, Result, Ok, Err, OnOk, IfOk, refl, ap, sym, subst, ◌∙◌, arith, IsUtf8}
 use Rattle.std.specs.Result.{IsErrAnd}
 use Rattle.std.proofs.lemmas.Option.{none-some, same_Some}

@@ -25,3 +25,4 @@ pub mod BoundLemmas
 pub mod KindValues
 pub mod CharacterLemmas
 pub mod ArgumentLemmas
+pub mod ReplacedLemmas

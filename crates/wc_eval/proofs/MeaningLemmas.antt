@@ -19,7 +19,7 @@ use Rattle.wc_eval.specs.declared.kind.Kind.{Kind}
 use Rattle.wc_eval.specs.Kinds.{kind_of}
 use Rattle.wc_eval.specs.Values.{longest}
 use Rattle.wc_eval.specs.Names.{Facts}
-use Rattle.wc_eval.specs.Progress.{Progress, Answer, Evaluator, then_do, answer_of, if_short, if_fits, value_fits, names_fit, most_made, with_made, counted, most_forms, Gives}
+use Rattle.wc_eval.specs.Progress.{Progress, Answer, Evaluator, then_do, answer_of, if_short, if_fits, value_fits, with_made, counted, most_forms, Gives}
 use Rattle.wc_eval.specs.Meaning.{put_before, pieces_value, values_by, kind_value, evaluator, form_at}
 use Rattle.wc_eval.proofs.StepLemmas.{agrees_earlier, Comes}
 
@@ -51,7 +51,7 @@ fits_same text p q made = by (value_fits (length text) p)
     by true e = ap (λ f. f.0) (same_Some _ _ e)
     by false e = absurd (none-some _ e)
 
-too_long : (front : List ℕ) (o : Answer (List ℕ)) → 65536 < length front → if_short (put_before front o) ≡ None
+pub too_long : (front : List ℕ) (o : Answer (List ℕ)) → 65536 < length front → if_short (put_before front o) ≡ None
 too_long front None long = refl
 too_long front (Some found) long =
     let more : 65536 < length (front ++ found.0) = omega (arith, long, length-append front found.0) in
@@ -59,11 +59,11 @@ too_long front (Some found) long =
 
 -- ---- bytes before pieces
 
-put_both : (a b : List ℕ) (o : Answer (List ℕ)) → put_before a (put_before b o) ≡ put_before (a ++ b) o
+pub put_both : (a b : List ℕ) (o : Answer (List ℕ)) → put_before a (put_before b o) ≡ put_before (a ++ b) o
 put_both a b None = refl
 put_both a b (Some found) = ap (λ l. answer_of l found.1) (sym (append_assoc a b found.0))
 
-put_none : (o : Answer (List ℕ)) → put_before [] o ≡ o
+pub put_none : (o : Answer (List ℕ)) → put_before [] o ≡ o
 put_none None = refl
 put_none (Some found) = refl
 

@@ -1,5 +1,5 @@
 -- Verdicts as they are kept, each under the bytes of its text.
-use Rattle.std.proofs.Common.{◌^◌, ◌<◌, length, Bor, Result, Ok, Err, IsOk, OnOk, option_copied, ◌≡◌, ◌≢◌, ◌≤◌, ◌+◌, ℕ, suc, Bool, true, false, List, [], ◌∷◌, ◌++◌, Option, Some, None, option_map, refl, ap, sym, subst, ◌∙◌, bytes_eq, is_some, IfSome, arith}
+use Rattle.std.proofs.Common.{◌^◌, ◌<◌, length, Bor, Result, Ok, Err, IsOk, OnOk, option_copied, ◌≡◌, ◌≤◌, ◌+◌, ℕ, suc, Bool, true, false, List, [], ◌∷◌, ◌++◌, Option, Some, None, option_map, refl, ap, sym, subst, ◌∙◌, bytes_eq, is_some, IfSome, arith}
 use Rattle.std.proofs.lemmas.Option.{none-some, same_Some}
 use Rattle.std.proofs.lemmas.Bool.{false≢true}
 use Rattle.std.proofs.lemmas.List.{length-map, length-append}

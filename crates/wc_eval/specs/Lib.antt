@@ -24,4 +24,5 @@ pub mod Arguments
 pub mod Names
 pub mod Meaning
 pub mod LongValues
+pub mod Replaced
 pub mod Searched

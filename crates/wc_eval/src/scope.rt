@@ -22,7 +22,7 @@ pub struct Scope<'a> {
 }
 
 /// The value of the first pair with this name.
-fn value_of<'a>(pairs: &'a [Pair], name: &[u8]) -> Option<&'a [u8]>
+pub fn value_of<'a>(pairs: &'a [Pair], name: &[u8]) -> Option<&'a [u8]>
     requires { All HasText pairs.now }
     ensures utf8 { IfSome result (λ value. IsUtf8 value.now) }
     ensures value { option_map (λ value. value.now) result ≡ value_of name.now pairs.now }
@@ -46,7 +46,7 @@ fn is_text(bytes: &[u8]) -> bool
 }
 
 /// A value, where it is text.
-fn text_in(value: &[u8]) -> Option<&[u8]>
+pub(crate) fn text_in(value: &[u8]) -> Option<&[u8]>
     ensures utf8 { IfSome result (λ text. IsUtf8 text.now) }
     ensures value { option_map (λ text. text.now) result ≡ text_in value.now }
 {

@@ -6,3 +6,4 @@ pub mod ReadLemmas
 pub mod SlashLemmas
 pub mod TextLemmas
 pub mod WordLemmas
+pub mod ReactionLemmas

@@ -5,6 +5,7 @@ pub mod Kept
 pub mod Keys
 pub mod NumbersLeft
 pub mod Outcomes
+pub mod Reactions
 pub mod Replacements
 pub mod Seen
 pub mod Slashes

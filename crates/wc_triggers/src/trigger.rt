@@ -1,6 +1,9 @@
-ghost use Rattle.std.specs.Prelude.{◌≡◌};
+ghost use Rattle.std.specs.Prelude.{◌≡◌, IfOk};
 ghost use Rattle.wc_triggers.specs.Triggers.{listens, matches_line, contains_folded};
-ghost use Rattle.wc_triggers.specs.Triggers.{listens_to_buffer, listens_to_tags, AreTexts};
+ghost use Rattle.wc_triggers.specs.Triggers.{listens_to_buffer, listens_to_tags, AreTexts, IsFine};
+ghost use Rattle.wc_triggers.specs.Reactions.{reaction_of, SaysTexts};
+ghost use Rattle.wc_eval.specs.Verdicts.{Oracle, Agrees, Stay};
+ghost use Rattle.wc_eval.specs.Names.{facts_of, AreTexts as AreKnown};
 ghost use Rattle.std.specs.Prelude.{is_some, true};
 ghost use Rattle.std.specs.Option.{option_copied};
 ghost use Rattle.std.specs.Str.{bytes_eq};
@@ -9,12 +12,15 @@ ghost use Rattle.wc_text.specs.Mask.{after_front};
 use crate::arguments::Arguments;
 use crate::keys::TriggerKey;
 use crate::outcomes::{PostAction, ReturnCode};
+use crate::react::{Reaction, react};
 use crate::replacements::Replacement;
+use std::alloc::Global;
 use std::marker::Model;
+use wc_eval::{Scope, Verdicts};
 use wc_filters::{Tags, buffers_match, tags_match};
 use wc_hooks::HookKind;
 use wc_lines::Line;
-use wc_text::{Items, Text};
+use wc_text::{Items, NoMemory, Text};
 
 /// What a trigger is, as contracts see it.
 #[derive(Drop)]
@@ -102,6 +108,31 @@ impl Trigger {
         ensures { result ≡ self.now.arguments.max_calls }
     {
         self.parts.arguments.max_calls
+    }
+
+    /// What it does at an event, up to its commands: whether it fires, the variables as its
+    /// replacements leave them, its commands, of which each is still to be evaluated at its turn,
+    /// its return code and its post action. The replacements are one evaluation: a variable is empty
+    /// where it would be longer than 65,536 bytes or another limit is passed, and so is from then on
+    /// each in which a pattern has a match.
+    ///
+    /// Refused for want of memory alone.
+    pub fn react(
+        &self,
+        alloc: Global,
+        scope: Scope<'_>,
+        verdicts: &mut Verdicts,
+    ) -> Result<Reaction, NoMemory>
+        requires scope { AreKnown (facts_of scope) }
+        requires fine { IsFine verdicts.old self.now }
+        // Whatever is thought of texts that were not judged, the answer is the same.
+        ensures reaction { IfOk result (λ reaction. (oracle : Oracle) →
+            Agrees oracle verdicts.new →
+            reaction ≡ reaction_of self.now (facts_of scope.entry) oracle) }
+        ensures texts { IfOk result SaysTexts }
+        ensures stay { Stay verdicts.old verdicts.new }
+    {
+        react(alloc, &self.parts, scope, verdicts)
     }
 
     /// Enables or disables the trigger.
