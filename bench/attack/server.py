@@ -67,14 +67,23 @@ def modes(letters):
     return play
 
 
-def strangers(program):
-    """Private messages of 254 nicks, each of which gets a buffer. The owner wants one more."""
-    server = Server(program)
-    seconds = server.cost([b":n%d!u@h PRIVMSG %s :hi" % (number, server.nick) for number in range(STRANGERS)])
-    type_lines(server.owner, [b"/buffer add mine"])
-    server.owner.sendall(b"hdata buffer:gui_buffers(*) full_name\n")
-    is_there = b"core.mine" in message(server.owner)
-    return Found(seconds, "" if is_there else "no buffer is left for the owner")
+def strangers(opened):
+    """The attack by private messages of 254 nicks, of which so many get a buffer. A channel and the owner want one each."""
+    def play(program):
+        server = Server(program)
+        seconds = server.cost([b":n%d!u@h PRIVMSG %s :hi" % (number, server.nick) for number in range(STRANGERS)])
+        server.say([b":%s!u@h JOIN #a" % server.nick])
+        server.settle()
+        type_lines(server.owner, [b"/buffer add mine"])
+        server.owner.sendall(b"hdata buffer:gui_buffers(*) full_name\n")
+        names = message(server.owner)
+        wanted = {"a channel": b"irc.net.#a", "the owner": b"core.mine"}
+        wrong = ["no buffer is left for " + who for who, name in wanted.items() if name not in names]
+        count = names.count(b"irc.net.n")
+        if count != opened:
+            wrong.append("%d of them got a buffer" % count)
+        return Found(seconds, ", ".join(wrong))
+    return play
 
 
 def quits(program):
@@ -90,7 +99,8 @@ ATTACKS = (
     Attack("40,000 own JOINs", joins, 5, 100),
     Attack("a MODE of 2,000 letters over 2,000 modes", modes(2000), 1, 64),
     Attack("a MODE of 60,000 letters over 60,000 modes", modes(60000), 1, 64),
-    Attack("254 strangers say something", strangers, 1, 64),
+    Attack("254 strangers say something", strangers(254), 1, 64),
+    Attack("254 strangers, where 64 may open buffers", strangers(64), 1, 64, True, ("irc.look.private_max = 64",)),
     Attack("20,000 nicks that join and quit", quits, 10, 100, True),
 )
 

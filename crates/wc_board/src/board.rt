@@ -8,6 +8,7 @@ ghost use Rattle.wc_model.specs.Notices.{Outcome};
 ghost use Rattle.wc_model.specs.Order.{order};
 ghost use Rattle.wc_model.specs.Parts.{parts_of};
 ghost use Rattle.wc_model.specs.World.{rows_at};
+ghost use Rattle.wc_world.specs.Handles.{skip_world};
 ghost use Rattle.wc_world.specs.Texts.{IsChangeText};
 ghost use Rattle.wc_board.specs.Answered.{noticed, IsUnchanged};
 ghost use Rattle.wc_board.specs.BoardView.{NoStrayTouches, first_board};
@@ -94,6 +95,14 @@ impl Board {
         ensures stray { NoStrayTouches self.now.world self.now.pending }
     {
         &self.world
+    }
+
+    /// Passes over the handles below this one, up to 2^62, as far as they were not drawn. No client is
+    /// told of that.
+    pub fn skip_to(&mut self, handle: u64)
+        ensures { self.new ≡ record self.old { world = skip_world handle self.old.world } }
+    {
+        self.world.skip_to(handle);
     }
 
     /// Makes a change, and tells its event, and how many of the oldest lines each buffer lost, to each

@@ -2,7 +2,7 @@
 use Rattle.std.proofs.Common.{◌≡◌, ℕ, List, [], ◌∷◌, ◌++◌, Option, None, Some, refl, subst}
 use Rattle.wc_board.specs.BoardView.{BoardView}
 use Rattle.wc_core.specs.CoreView.{CoreView}
-use Rattle.wc_core.specs.BoardSteps.{board_of, BoardStep, StepsThrough, BoardSteps, IsBy, ThroughBy, StepsBy, Tells, Pushes, Answers, Loses, Keeps}
+use Rattle.wc_core.specs.BoardSteps.{board_of, BoardStep, StepsThrough, BoardSteps, IsBy, ThroughBy, StepsBy, Tells, Pushes, Answers, Loses, Keeps, Skips}
 
 pub steps-none : (board : BoardView) → BoardSteps board board
 steps-none board = record { boards = []; steps = refl }
@@ -42,6 +42,7 @@ by-anyone own old new (Pushes pushed) is = tt
 by-anyone own old new (Answers answer) is = absurd (let q : None ≡ Some answer.link = is in cc)
 by-anyone own old new (Loses loss) is = absurd (let q : None ≡ Some loss.link = is in cc)
 by-anyone own old new (Keeps kept) is = tt
+by-anyone own old new (Skips skipped) is = absurd is
 
 by-all : (own : Option ℕ) (boards : List BoardView) (a b : BoardView) → ThroughBy None boards a b → ThroughBy own boards a b
 by-all own [] a b same = same

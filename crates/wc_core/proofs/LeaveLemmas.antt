@@ -46,14 +46,15 @@ use Rattle.wc_irc.specs.LoginActs.{cap_act, end_act, asking_act, failure_act, re
 use Rattle.wc_irc.specs.ModeActs.{modes_after, with_change, moved, change_acts, changes_acts, mode_moves, mode_line, mode_on, mode_acts, same_place}
 use Rattle.wc_irc.specs.NameActs.{seats_in, placed, placed_all, names_in, names_acts}
 use Rattle.wc_irc.specs.NewBuffers.{opened, name_or}
+use Rattle.wc_irc.specs.PrivateBuffers.{opens_too_many}
 use Rattle.wc_irc.specs.NickActs.{add_group, add_groups, remove_nick, emptied}
 use Rattle.wc_irc.specs.OwnSpeech.{own_line, own_talk, hides, shown_text, acts_of_own, own_speech, own_lines, private_lines, own_texts, shown_parts}
 use Rattle.wc_irc.specs.RenameActs.{come_again, nick_line, rename_on, rename_as, rename_of, renamed_buffer, rename_private, own_var, own_vars, nick_acts}
 use Rattle.wc_irc.specs.ServerActs.{acts_of_kind, kind_to, acts_of_server}
 use Rattle.wc_irc.specs.Servers.{ServerState, is_own, own_nick_from, next_nick, may_try}
-use Rattle.wc_irc.specs.SpeechActs.{Talk, Says, Does, Requests, talk_of, talk_heard, talk_line, talk_tags, on_private, on_target, acts_of_talk}
+use Rattle.wc_irc.specs.SpeechActs.{Talk, Says, Does, Requests, talk_of, talk_heard, talk_line, talk_tags, on_private, heard_privately, heard_on, acts_of_talk}
 use Rattle.wc_irc.specs.TalkActs.{on_found, other_acts, aimed, sent, differs, told_nick, tell_nick, welcome_line, raised, welcome_acts, notice_line, notice_acts, has_var}
-use Rattle.wc_irc.specs.Targets.{found, full_name}
+use Rattle.wc_irc.specs.Targets.{server_buffer, found, full_name}
 use Rattle.wc_core.specs.ServerSteps.{leave_in}
 use Rattle.wc_core.specs.ServerTyped.{acts_in}
 
@@ -177,13 +178,14 @@ named groups s m = where_found (found groups s (param 2 m)) _ (λ buffer. of buf
   of buffer None = refl
   of buffer (Some channel) = places s.features.prefixes buffer channel.case_map (seats_in s m) channel.seats
 
-talked : (groups : EntryGroups) (s : ServerState) (target nick : List ℕ) (does : Bool) (text : List ℕ) (tags : List (List ℕ)) (said : List ℕ) → Stays (on_target groups s target nick (talk_line s said nick does text tags))
+talked : (groups : EntryGroups) (s : ServerState) (target nick : List ℕ) (does : Bool) (text : List ℕ) (tags : List (List ℕ)) (said : List ℕ) → Stays (heard_on groups s target nick (talk_line s said nick does text tags))
 talked groups s target nick does text tags said =
     let line = talk_line s said nick does text tags in
     let there = found groups s nick in
     let heard = found groups s (aimed s target) in
-    either (is_channel s.features.chan_types (aimed s target)) (on_found heard (λ buffer. line buffer ∷ [])) (on_private s nick line there) (where_found heard (λ buffer. line buffer ∷ []) (λ buffer. one does buffer))
-    (both (opened there (codes "private") s nick) (line (name_or there (full_name s.name nick)) ∷ []) (opening there (codes "private") s nick) (one does (name_or there (full_name s.name nick))))
+    either (is_channel s.features.chan_types (aimed s target)) (on_found heard (λ buffer. line buffer ∷ [])) (heard_privately groups s nick line there) (where_found heard (λ buffer. line buffer ∷ []) (λ buffer. one does buffer))
+    (either (opens_too_many groups s there) (line (server_buffer s.name) ∷ []) (on_private s nick line there) (one does (server_buffer s.name))
+    (both (opened there (codes "private") s nick) (line (name_or there (full_name s.name nick)) ∷ []) (opening there (codes "private") s nick) (one does (name_or there (full_name s.name nick)))))
   where
     one : (does : Bool) (buffer : List ℕ) → Stays (talk_line s said nick does text tags buffer ∷ [])
     one true buffer = refl

@@ -25,6 +25,7 @@ pub mod CountLemmas
 pub mod ActLemmas
 pub mod AnswerLemmas
 pub mod StartLemmas
+pub mod SkipLaws
 pub mod EvalLemmas
 pub mod MessageLemmas
 pub mod NamesLaw

@@ -1,5 +1,5 @@
 -- The table of commands names exactly those that are known.
-use Rattle.std.proofs.Common.{◌≡◌, ℕ, Bool, true, false, cond, List, [], ◌∷◌, Option, Some, None, refl, sym, ap, subst, ◌∙◌, codes}
+use Rattle.std.proofs.Common.{◌≡◌, ℕ, Bool, true, false, cond, List, [], ◌∷◌, Option, Some, None, refl, sym, ap, ◌∙◌, codes}
 use Rattle.std.specs.Prelude.{not, ◌||◌, find, is_some, option_map}
 use Rattle.std.specs.List.{list_any}
 use Rattle.std.specs.Str.{bytes_eq}
@@ -9,7 +9,7 @@ use Rattle.wc_irc_words.specs.declared.everyday.Everyday.{Everyday}
 use Rattle.wc_irc_words.specs.declared.everyday.Everyday.TheVariants as word
 use Rattle.wc_irc_words.specs.Everyday.{all_everyday, everyday_named, is_everyday, is_who}
 use Rattle.wc_irc_words.specs.Typed.{ServerCommand, Bids, command_of, is_called}
-use Rattle.wc_core.specs.Typed.{TypedCommand, command, news_command, option_command, unknown_command, input_command, hotlist_command}
+use Rattle.wc_core.specs.Typed.{TypedCommand, command, news_command, option_command, input_command, hotlist_command}
 use Rattle.wc_core.specs.Forms.{core_text, server_text}
 use Rattle.wc_core.specs.CommandNames.{is_unknown, is_known, is_named}
 

@@ -151,55 +151,7 @@ range_text (row ∷ rows) (suc place) all = range_text rows place all.1
 
 global_ranges : AreRangesUtf8 globals
 unfolding globals
-global_ranges = (
-  ascii_text (codes "1 to 4096") refl,
-  (
-    ascii_text (codes "text") refl,
-    (
-      ascii_text (codes "masks joined by commas") refl,
-      (
-        ascii_text (codes "1 to 64") refl,
-        (
-          ascii_text (codes "0 to 4096") refl,
-          (
-            ascii_text (codes "1 to 65535, read at the start") refl,
-            (
-              ascii_text (codes "text, not empty") refl,
-              (
-                ascii_text (codes "text, not empty") refl,
-                (
-                  ascii_text (codes "one word") refl,
-                  (
-                    ascii_text (codes "text") refl,
-                    (
-                      ascii_text (codes "text") refl,
-                      (
-                        ascii_text (codes "on, off") refl,
-                        (
-                          ascii_text (codes "on, off") refl,
-                          (
-                            ascii_text (codes "text") refl,
-                            (
-                              ascii_text (codes "text") refl,
-                              (
-                                ascii_text (codes "continue, disconnect") refl,
-                                (ascii_text (codes "words") refl, tt),
-                              ),
-                            ),
-                          ),
-                        ),
-                      ),
-                    ),
-                  ),
-                ),
-              ),
-            ),
-          ),
-        ),
-      ),
-    ),
-  ),
-)
+global_ranges = (ascii_text (codes "1 to 4096") refl, (ascii_text (codes "text") refl, (ascii_text (codes "masks joined by commas") refl, (ascii_text (codes "1 to 64") refl, (ascii_text (codes "0 to 4096") refl, (ascii_text (codes "counted, fresh, read at the start") refl, (ascii_text (codes "1 to 65535, read at the start") refl, (ascii_text (codes "1 to 256, read at the start") refl, (ascii_text (codes "text, not empty") refl, (ascii_text (codes "text, not empty") refl, (ascii_text (codes "one word") refl, (ascii_text (codes "text") refl, (ascii_text (codes "text") refl, (ascii_text (codes "on, off") refl, (ascii_text (codes "on, off") refl, (ascii_text (codes "text") refl, (ascii_text (codes "text") refl, (ascii_text (codes "continue, disconnect") refl, (ascii_text (codes "words") refl, tt)))))))))))))))))))
 
 server_ranges : AreRangesUtf8 of_server
 unfolding of_server

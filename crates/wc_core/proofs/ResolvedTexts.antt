@@ -28,7 +28,7 @@ use Rattle.wc_model.specs.Touches.{touched_key}
 use Rattle.wc_model.specs.Apply.{or_else, of_buffers, refusal_of_handles, is_held, no_line, row_of, refusal_of, refusal}
 use Rattle.wc_world.specs.Texts.{IsChangeText}
 use Rattle.wc_core.specs.Typed.{TypedCommand, Nothing, Quits, Refused, Others, Prints, Adds, Closes, Merges, Names, Changes, Sets, Unsets, Switches, Saves, UsesHotlist, UsesFilters, typed_line, Evaluates}
-use Rattle.wc_core.specs.Resolved.{Effect, Stays, Ends, Tells, Asks, SetsOption, UnsetsOption, SavesOptions, ChangesHotlist, ChangesFilters, switched, buffer_meant, no_such_buffer, of_meant, of_named, change_of, line_spec, core_spec, plugin_in, rename_of, effect_of, buffer_text, refusal_text, filter_text, no_such_filter, told_refusal}
+use Rattle.wc_core.specs.Resolved.{Effect, switched, buffer_meant, no_such_buffer, of_meant, of_named, change_of, line_spec, core_spec, plugin_in, rename_of, effect_of, buffer_text, refusal_text, filter_text, no_such_filter, told_refusal}
 use Rattle.wc_core.specs.Fitted.{fitted_what}
 use Rattle.wc_core.specs.Texts.{WhatUtf8, EffectUtf8}
 use Rattle.wc_core.proofs.TypedLemmas.{ascii_text, TypedUtf8, typed_utf8}

@@ -4,8 +4,11 @@ use Rattle.std.specs.Prelude.{map}
 use Rattle.wc_core.specs.CoreView.{CoreView}
 use Rattle.wc_core.specs.Typed.{lines_of_text}
 use Rattle.wc_core.specs.State.{State, Stepped, has_end}
-use Rattle.wc_core.specs.Step.{core_buffer, then_does, lines_step, commands_step, start_step}
+use Rattle.wc_core.specs.Events.{Start}
+use Rattle.wc_core.specs.Limits.{first_handle}
+use Rattle.wc_core.specs.Step.{core_buffer, then_does, lines_step, commands_step, start_step, step}
 use Rattle.wc_core.specs.ServerTyped.{connect_all_step}
+use Rattle.wc_board.specs.BoardView.{BoardView}
 use Rattle.wc_board.specs.Connections.{leaving_on}
 use Rattle.wc_board.specs.Served.{StaysOrStarves}
 use Rattle.wc_core.specs.Served.{state_of, or_else, close_of, LeavesBy, Follows, Does}
@@ -18,7 +21,10 @@ use Rattle.wc_core.proofs.OracleLemmas.{Agrees-before}
 use Rattle.wc_core.specs.State.{beside}
 use Rattle.std.proofs.lemmas.Bool.{false≢true}
 use Rattle.wc_core.specs.Contained.{Runs}
-use Rattle.wc_core.specs.Starts.{RunsInput, RunsCommands, RunsStart, Starts}
+use Rattle.wc_core.specs.Starts.{RunsInput, RunsCommands, RunsStart, Starts, begun_core}
+use Rattle.wc_core.specs.BoardSteps.{board_of, BoardSteps, Skips}
+use Rattle.wc_world.specs.Handles.{skip_world}
+use Rattle.wc_core.proofs.BoardStepLemmas.{steps-one, steps-both}
 use Rattle.wc_core.proofs.RunLemmas.{contains-of, counts-of, board-of}
 
 -- a step that closes none, in the place of another one that closes none
@@ -89,32 +95,48 @@ pub starts-more : (a b c : CoreView) (commands : List (List ℕ)) → a.quits �
 starts-more a b c commands going on done more =
     goes-on a b c (λ state. commands_step state commands) connect_all_step (λ j state. commands-closes j state commands) (λ j state. connects_all-closes j state) going on done more
 
--- the start sets the moment, and its commands are run as if no `/quit` had been run before
-pub started : (old new : CoreView) (moment : ℕ) → Does (record old { moment = moment; commands = []; quits = false }) new (λ state. start_step state old.commands) → Does old (record new { quits = new.quits || old.quits }) (λ state. start_step (record state { moment = moment; commands = [] }) state.commands)
+-- what the commands of the start begin with, by its parts
+abbrev pub with_start : CoreView → BoardView → ℕ → List (List ℕ) → Bool → CoreView
+with_start old board moment commands quits = record old { world = board.world; pending = board.pending; connections = board.connections; moment = moment; commands = commands; quits = quits }
+
+start-parts : (old : CoreView) (board : BoardView) (rest : List (List ℕ)) (quit : Bool) (moment handle : ℕ) → handle ≡ first_handle old.options moment → board ≡ record (board_of old) { world = skip_world handle old.world } → rest ≡ [] → quit ≡ false
+    → with_start old board moment rest quit ≡ begun_core moment old
+start-parts old board rest quit moment handle first skips none going =
+    let B : BoardView → CoreView = λ board. with_start old board moment rest quit in
+    let H : ℕ → CoreView = λ handle. with_start old (record (board_of old) { world = skip_world handle old.world }) moment rest quit in
+    let C : List (List ℕ) → CoreView = λ commands. record (begun_core moment old) { commands = commands; quits = quit } in
+    let Q : Bool → CoreView = λ quits. record (begun_core moment old) { quits = quits } in
+    ap B skips ∙ ap H first ∙ ap C none ∙ ap Q going
+
+-- the start sets the moment and passes handles over, and its commands are run as if no `/quit` had
+-- been run before
+pub started : (old new : CoreView) (moment : ℕ) → Does (begun_core moment old) new (λ state. start_step state old.commands) → Does old (record new { quits = new.quits || old.quits }) (λ state. step state (Start moment))
 started old new moment done = λ told.
     let f = done told in
     record {
-      keeps = record { board = f.keeps.board; rises = f.keeps.rises; links = f.keeps.links; kept = f.keeps.kept; saves = f.keeps.saves; servers = f.keeps.servers; verdicts = f.keeps.verdicts };
+      keeps = record { board = steps-both (board_of old) (board_of (begun_core moment old)) (board_of new) skips f.keeps.board; rises = f.keeps.rises; links = f.keeps.links; kept = f.keeps.kept; saves = f.keeps.saves; servers = f.keeps.servers; verdicts = f.keeps.verdicts };
       causes = f.causes;
       does = λ same below distinct were agrees.
           let g = f.does same below distinct were agrees in
           record { means = record { same = g.means.same; told = g.means.told }; oracle = g.oracle; bytes = g.bytes; leaving = g.leaving; quits = ap (λ t. t || old.quits) g.quits ∙ or-turned _ old.quits; servers = g.servers; parts = g.parts };
     }
   where
+    skips : BoardSteps (board_of old) (board_of (begun_core moment old))
+    skips = steps-one (board_of old) (board_of (begun_core moment old)) (Skips (record { handle = first_handle old.options moment; put = refl }))
+
     or-turned : (a b : Bool) → (a || b) ≡ (b || a)
     or-turned true true = refl
     or-turned true false = refl
     or-turned false true = refl
     or-turned false false = refl
 
-pub started-by : (old mid : CoreView) (commands rest : List (List ℕ)) (quit' quit : Bool) (moment : ℕ) → rest ≡ [] → quit' ≡ false → quit ≡ old.quits → commands ≡ old.commands
-    → Does (record old { moment = moment; commands = rest; quits = quit' }) mid (λ state. start_step state commands) → Does old (record mid { quits = mid.quits || quit }) (λ state. start_step (record state { moment = moment; commands = [] }) state.commands)
-started-by old mid commands rest quit' quit moment none going was same done =
-    let P : List (List ℕ) → Type 0 = λ rest. Does (record old { moment = moment; commands = rest; quits = quit' }) mid (λ state. start_step state commands) in
-    let Q : Bool → Type 0 = λ quits. Does (record old { moment = moment; commands = []; quits = quits }) mid (λ state. start_step state commands) in
-    let R : List (List ℕ) → Type 0 = λ commands. Does (record old { moment = moment; commands = []; quits = false }) mid (λ state. start_step state commands) in
-    let S : Bool → Type 0 = λ quit. Does old (record mid { quits = mid.quits || quit }) (λ state. start_step (record state { moment = moment; commands = [] }) state.commands) in
-    subst S (sym was) (started old mid moment (subst R same (subst Q going (subst P none done))))
+pub started-by : (old mid : CoreView) (board : BoardView) (commands rest : List (List ℕ)) (quit' quit : Bool) (moment handle : ℕ) → handle ≡ first_handle old.options moment → board ≡ record (board_of old) { world = skip_world handle old.world } → rest ≡ [] → quit' ≡ false → quit ≡ old.quits → commands ≡ old.commands
+    → Does (with_start old board moment rest quit') mid (λ state. start_step state commands) → Does old (record mid { quits = mid.quits || quit }) (λ state. step state (Start moment))
+started-by old mid board commands rest quit' quit moment handle first skips none going was same done =
+    let P : CoreView → Type 0 = λ core. Does core mid (λ state. start_step state commands) in
+    let R : List (List ℕ) → Type 0 = λ commands. Does (begun_core moment old) mid (λ state. start_step state commands) in
+    let S : Bool → Type 0 = λ quit. Does old (record mid { quits = mid.quits || quit }) (λ state. step state (Start moment)) in
+    subst S (sym was) (started old mid moment (subst R same (subst P (start-parts old board rest quit' moment handle first skips none going) done)))
 
 -- ---- each command as an input of its own
 
@@ -133,14 +155,13 @@ start-last a b commands quit runs = record { mid = b; runs = runs; ends = λ sam
 pub start-more : (a b c : CoreView) (commands : List (List ℕ)) → b.quits ≡ false → RunsCommands commands a b → Runs b c connect_all_step → RunsStart commands a c
 start-more a b c commands on runs run = record { mid = b; runs = runs; ends = λ quit. absurd (false≢true (sym on ∙ quit)); connects = λ same. runs-input b c connect_all_step run }
 
-pub starts-by : (old mid : CoreView) (commands rest : List (List ℕ)) (quit' quit : Bool) (moment : ℕ) → rest ≡ [] → quit' ≡ false → quit ≡ old.quits → commands ≡ old.commands
-    → RunsStart commands (record old { moment = moment; commands = rest; quits = quit' }) mid → Starts moment old (record mid { quits = mid.quits || quit })
-starts-by old mid commands rest quit' quit moment none going was same done =
-    let P : List (List ℕ) → Type 0 = λ rest. RunsStart commands (record old { moment = moment; commands = rest; quits = quit' }) mid in
-    let Q : Bool → Type 0 = λ quits. RunsStart commands (record old { moment = moment; commands = []; quits = quits }) mid in
-    let R : List (List ℕ) → Type 0 = λ commands. RunsStart commands (record old { moment = moment; commands = []; quits = false }) mid in
+pub starts-by : (old mid : CoreView) (board : BoardView) (commands rest : List (List ℕ)) (quit' quit : Bool) (moment handle : ℕ) → handle ≡ first_handle old.options moment → board ≡ record (board_of old) { world = skip_world handle old.world } → rest ≡ [] → quit' ≡ false → quit ≡ old.quits → commands ≡ old.commands
+    → RunsStart commands (with_start old board moment rest quit') mid → Starts moment old (record mid { quits = mid.quits || quit })
+starts-by old mid board commands rest quit' quit moment handle first skips none going was same done =
+    let P : CoreView → Type 0 = λ core. RunsStart commands core mid in
+    let R : List (List ℕ) → Type 0 = λ commands. RunsStart commands (begun_core moment old) mid in
     let F : Bool → CoreView = λ quit. record mid { quits = mid.quits || quit } in
-    record { last = mid; runs = subst R same (subst Q going (subst P none done)); put = ap F was }
+    record { last = mid; runs = subst R same (subst P (start-parts old board rest quit' moment handle first skips none going) done); put = ap F was }
 
 abbrev nothing : (X : Type 0) → List X
 nothing X = []
@@ -158,13 +179,12 @@ pub none-of : {X Y : Type 0} (f : X → Y) (xs : List X) → map f xs ≡ [] →
 none-of f [] e = refl
 none-of f (x ∷ xs) e = absurd (omega (arith, ap length e))
 
--- a start without commands sets the moment alone
-pub idle-by : (old now mid : CoreView) (rest : List (List ℕ)) (quit' quit : Bool) (moment : ℕ) → old ≡ now → rest ≡ [] → quit' ≡ false → quit ≡ old.quits → now.commands ≡ []
-    → mid ≡ record old { moment = moment; commands = rest; quits = quit' } → record mid { quits = mid.quits || quit } ≡ record now { moment = moment }
-idle-by old now mid rest quit' quit moment is none going was empty same =
+-- a start without commands sets the moment and passes handles over
+pub idle-by : (old now mid : CoreView) (board : BoardView) (rest : List (List ℕ)) (quit' quit : Bool) (moment handle : ℕ) → old ≡ now → handle ≡ first_handle old.options moment → board ≡ record (board_of old) { world = skip_world handle old.world } → rest ≡ [] → quit' ≡ false → quit ≡ old.quits → now.commands ≡ []
+    → mid ≡ with_start old board moment rest quit' → record mid { quits = mid.quits || quit } ≡ record now { world = skip_world (first_handle now.options moment) now.world; moment = moment }
+idle-by old now mid board rest quit' quit moment handle is first skips none going was empty same =
     let F : CoreView → CoreView = λ core. record core { quits = core.quits || quit } in
-    let G : Bool → CoreView = λ quits. record old { moment = moment; commands = rest; quits = quits || quit } in
-    let H : Bool → CoreView = λ quits. record old { moment = moment; commands = rest; quits = quits } in
-    let I : List (List ℕ) → CoreView = λ commands. record old { moment = moment; commands = commands } in
-    let J : CoreView → CoreView = λ core. record core { moment = moment } in
-    ap F same ∙ ap G going ∙ ap H was ∙ ap I (none ∙ sym (ap (λ (core : CoreView). core.commands) is ∙ empty)) ∙ ap J is
+    let H : Bool → CoreView = λ quits. record (begun_core moment old) { quits = quits } in
+    let J : CoreView → CoreView = λ core. record core { world = skip_world (first_handle core.options moment) core.world; moment = moment } in
+    let I : List (List ℕ) → CoreView = λ commands. record (J old) { commands = commands } in
+    ap F (same ∙ start-parts old board rest quit' moment handle first skips none going) ∙ ap H was ∙ ap I (sym (ap (λ (core : CoreView). core.commands) is ∙ empty)) ∙ ap J is

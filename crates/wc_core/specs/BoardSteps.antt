@@ -15,6 +15,7 @@ use Rattle.wc_board.specs.Connections.{connection_link, is_open, left_at}
 use Rattle.wc_board.specs.Served.{NoticeServed}
 use Rattle.wc_board.specs.Told.{AreTouched, AreSameTouches}
 use Rattle.wc_core.specs.CoreView.{CoreView}
+use Rattle.wc_world.specs.Handles.{skip_world}
 
 -- the buffers of the core, what is kept of their touches, and its clients
 abbrev pub board_of : CoreView → BoardView
@@ -57,6 +58,11 @@ pub record KeepsTouches (old new : BoardView) : Type 0 where
   pub same : AreSameTouches old.pending new.pending
   pub put : new ≡ record old { pending = new.pending }
 
+-- handles are passed over, and nothing else becomes another
+pub record SkipsHandles (old new : BoardView) : Type 0 where
+  pub handle : ℕ
+  pub put : new ≡ record old { world = skip_world handle old.world }
+
 -- one thing, whole
 pub data BoardStep (old new : BoardView) : Type 0 where
   Tells : TellsChange old new → BoardStep old new
@@ -64,6 +70,7 @@ pub data BoardStep (old new : BoardView) : Type 0 where
   Answers : AnswersClient old new → BoardStep old new
   Loses : LosesClient old new → BoardStep old new
   Keeps : KeepsTouches old new → BoardStep old new
+  Skips : SkipsHandles old new → BoardStep old new
 
 -- one after another, through these boards
 abbrev pub StepsThrough : List BoardView → BoardView → BoardView → Type 0
@@ -77,14 +84,16 @@ pub record BoardSteps (old new : BoardView) : Type 0 where
   pub boards : List BoardView
   pub steps : StepsThrough boards old new
 
--- a request was that of the client of this link, if it is one, and so was the loss of a client, but
--- where it found no memory for an event or a push that it asked for
+-- A request was that of the client of this link, if it is one, and so was the loss of a client, but
+-- where it found no memory for an event or a push that it asked for. Handles are passed over for
+-- nobody, but before the commands of the start.
 abbrev pub IsBy : Option ℕ → (old new : BoardView) → BoardStep old new → Type 0
 IsBy own old new (Tells told) = Unit {0}
 IsBy own old new (Pushes pushed) = Unit {0}
 IsBy own old new (Answers answer) = own ≡ Some answer.link
 IsBy own old new (Loses loss) = own ≡ Some loss.link
 IsBy own old new (Keeps kept) = Unit {0}
+IsBy own old new (Skips skipped) = ⊥
 
 pub record StepBy (own : Option ℕ) (old new : BoardView) : Type 0 where
   pub step : BoardStep old new

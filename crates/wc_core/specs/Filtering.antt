@@ -1,5 +1,5 @@
 -- The texts of a change of filters.
-use Rattle.std.specs.Prelude.{List, Option, Some, None}
+use Rattle.std.specs.Prelude.{Some, None}
 use Rattle.std.specs.Str.{IsUtf8}
 use Rattle.wc_core.specs.declared.typed_filter.FilterChange.{FilterChange}
 use Rattle.wc_core.specs.declared.typed_filter.FilterChange.TheVariants as filtering

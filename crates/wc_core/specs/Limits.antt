@@ -1,5 +1,6 @@
--- The options that are numbers.
-use Rattle.std.specs.Prelude.{ℕ, List, Option, Some, None, unwrap_or, codes, if◌then◌else◌}
+-- The options that the core reads by itself.
+use Rattle.std.specs.Prelude.{ℕ, ◌*◌, ◌^◌, ◌&&◌, List, Option, Some, None, unwrap_or, codes}
+use Rattle.std.specs.Prelude.{nat_lt, if◌then◌else◌}
 use Rattle.std.specs.Str.{bytes_eq}
 use Rattle.wc_options.specs.Number.{number_in}
 use Rattle.wc_options.specs.Options.{OptionsValue}
@@ -37,3 +38,12 @@ client_limit options = number_or 64 5 (option_value options (codes "relay.networ
 -- where clients are listened for
 unfoldable pub port_of : OptionsValue → ℕ
 port_of options = number_or 65535 9000 (option_value options (codes "relay.port.weechat"))
+
+-- Where handles are to be fresh, those below this one are passed over as a run starts at a moment, in
+-- milliseconds since 1970: each millisecond has 2^20 of its own. A moment for which there are none
+-- passes none over.
+unfoldable pub first_handle : OptionsValue → ℕ → ℕ
+first_handle options moment =
+    if bytes_eq (option_value options (codes "relay.network.handles")) (codes "fresh")
+    && nat_lt moment (2 ^ 42)
+    then moment * 1048576 else 0

@@ -3,10 +3,12 @@ use Rattle.std.specs.Prelude.{◌≡◌, ℕ, true, false, ◌||◌, List, [], �
 use Rattle.wc_core.specs.BoardSteps.{board_of, StepsBy}
 use Rattle.wc_core.specs.Contained.{Contains, Counts}
 use Rattle.wc_core.specs.CoreView.{CoreView}
+use Rattle.wc_core.specs.Limits.{first_handle}
 use Rattle.wc_core.specs.ServerTyped.{connect_all_step}
 use Rattle.wc_core.specs.State.{State, Stepped}
 use Rattle.wc_core.specs.Step.{core_buffer, lines_step}
 use Rattle.wc_core.specs.Typed.{lines_of_text}
+use Rattle.wc_world.specs.Handles.{skip_world}
 
 -- an input, which may be cut short
 pub record RunsInput (old new : CoreView) (step : State → Stepped) : Type 0 where
@@ -34,9 +36,17 @@ pub record RunsStart (commands : List (List ℕ)) (old new : CoreView) : Type 0 
   pub ends : mid.quits ≡ true → new ≡ mid
   pub connects : mid.quits ≡ false → RunsInput mid new connect_all_step
 
--- the moment is set first, and a `/quit` that was run before is none of the start's
+-- Before the commands are run the moment is set, and handles are passed over.
+abbrev pub begun_core : ℕ → CoreView → CoreView
+begun_core moment old = record old {
+  world = skip_world (first_handle old.options moment) old.world;
+  moment = moment;
+  commands = [];
+  quits = false;
+}
+
+-- a `/quit` that was run before is none of the start's
 pub record Starts (moment : ℕ) (old new : CoreView) : Type 0 where
   pub last : CoreView
-  pub runs : RunsStart old.commands
-      (record old { moment = moment; commands = []; quits = false }) last
+  pub runs : RunsStart old.commands (begun_core moment old) last
   pub put : new ≡ record last { quits = last.quits || old.quits }

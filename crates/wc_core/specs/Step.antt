@@ -15,9 +15,10 @@ use Rattle.wc_session.specs.declared.outcome.Outcome.TheVariants as outcome
 use Rattle.wc_session.specs.Known.{new_client}
 use Rattle.wc_session.specs.Reply.{Answer, reply_of}
 use Rattle.wc_servers.specs.Seats.{server_link}
+use Rattle.wc_world.specs.Handles.{skip_world}
 use Rattle.wc_core.specs.Events.{Event, Start, Tick, Arrives, Line as LineCame, Stands, Ends, Fails}
 use Rattle.wc_core.specs.Events.{Breaks, ListenFails}
-use Rattle.wc_core.specs.Limits.{client_limit}
+use Rattle.wc_core.specs.Limits.{client_limit, first_handle}
 use Rattle.wc_core.specs.Contexts.{context_of}
 use Rattle.wc_core.specs.Resolved.{Effect, Stays, Ends as ResolvedEnds, Tells, Asks, SetsOption}
 use Rattle.wc_core.specs.Resolved.{UnsetsOption, SavesOptions, ChangesHotlist, ChangesFilters}
@@ -216,10 +217,17 @@ arrival_step state link nonce =
     else reach_step (record state { used = max state.used link })
     (Closes link Surplus ∷ [])
 
+-- the state that the commands of the start begin with
+abbrev pub begun_state : State → ℕ → State
+begun_state state moment = record state {
+  world = skip_world (first_handle state.options moment) state.world;
+  moment = moment;
+  commands = [];
+}
+
 -- what the core does at an event
 abbrev pub step : State → Event → Stepped
-step state (Start moment) = start_step (record state { moment = moment; commands = [] })
-    state.commands
+step state (Start moment) = start_step (begun_state state moment) state.commands
 step state (Tick moment) = push_step (record state { moment = moment })
 step state (Arrives link nonce) = arrival_step state link nonce
 step state (LineCame link line) = link_line_step state link line

@@ -8,7 +8,7 @@ ghost use Rattle.wc_relaycmd.specs.Grammar.{HasCommand};
 ghost use Rattle.wc_relaycmd.specs.Utf8.{RequestIsUtf8};
 ghost use Rattle.wc_session.specs.Served.{OnServed, OnNoMemory};
 ghost use Rattle.wc_core.specs.Events.{Start, Tick, Arrives, Line as LineCame};
-ghost use Rattle.wc_core.specs.Limits.{most_lines};
+ghost use Rattle.wc_core.specs.Limits.{first_handle, most_lines};
 ghost use Rattle.wc_core.specs.State.{Beside, first_state};
 ghost use Rattle.wc_core.specs.Step.{step, commands_step, push_step};
 ghost use Rattle.wc_core.specs.Step.{link_loss_step, line_step, start_step};
@@ -27,10 +27,11 @@ ghost use Rattle.wc_core.specs.Served.{AdmitsUnlessStarved};
 ghost use Rattle.wc_core.specs.Served.{OutcomeUtf8};
 ghost use Rattle.wc_core.specs.BoardSteps.{board_of, StepsBy};
 ghost use Rattle.wc_core.specs.Inputs.{AnswersRequestOf};
+ghost use Rattle.wc_world.specs.Handles.{skip_world};
 
 use crate::beginning::Beginning;
 use crate::command_names::CommandNames;
-use crate::limits::most_lines;
+use crate::limits::{first_handle, most_lines};
 use std::alloc::Global;
 use std::marker::Model;
 use std::mem;
@@ -144,14 +145,20 @@ impl Core {
     /// Sets the starting moment, in milliseconds since 1970, and runs the commands of the start on
     /// the core buffer, in order and each as an input of its own, up to `/quit`. After them the
     /// servers whose option `autoconnect` is on are connected, unless that was held back. Where
-    /// there are no commands and it was, nothing but the moment changes.
+    /// there are no commands and it was, nothing but the moment changes, and the next handle: where
+    /// `relay.network.handles` is `fresh` it is the moment times 2^20 or more.
     pub fn start(&mut self, moment: u64)
         ensures does { Does self.old self.new (λ state. step state (Start moment)) }
         ensures each { Starts moment self.old self.new }
         ensures idle { self.old.commands ≡ [] → self.old.connects ≡ false →
-            self.new ≡ record self.old { moment = moment } }
+            self.new ≡ record self.old {
+              world = skip_world (first_handle self.old.options moment) self.old.world;
+              moment = moment;
+            } }
     {
         self.moment = moment;
+        let handle = first_handle(&self.options, moment);
+        self.board.skip_to(handle);
         let commands = mem::replace(&mut self.commands, Vec::new(self.alloc));
         let quit = mem::replace(&mut self.quits, false);
         self.run_start(commands.as_slice());

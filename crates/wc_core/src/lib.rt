@@ -30,7 +30,10 @@ mod typed_hotlist;
 
 pub use command_names::CommandNames;
 pub use core_state::Core;
-pub use laws::{each_command_has_one_form, known_commands_are_named};
+pub use laws::{
+    counted_handles_are_skipped_nowhere, each_command_has_one_form,
+    fresh_handles_begin_at_the_start, known_commands_are_named,
+};
 pub use limits::port_of;
 pub use wc_board::{Connection, Departure};
 pub use wc_servers::Wanted;

@@ -1,8 +1,8 @@
-//! The options that are numbers.
+//! The options that the core reads by itself.
 
 ghost use Rattle.std.specs.Prelude.{◌≡◌, ◌≤◌, IfSome};
 ghost use Rattle.wc_core.specs.Limits.{number_or, most_lines, limit_set, limit_unset};
-ghost use Rattle.wc_core.specs.Limits.{client_limit, port_of};
+ghost use Rattle.wc_core.specs.Limits.{client_limit, port_of, first_handle};
 
 use wc_options::{Options, number_in};
 use wc_session::option_value;
@@ -12,6 +12,12 @@ const LINES: &[u8] = b"weechat.history.max_buffer_lines_number";
 
 /// The greatest number that it may have, which is its default too.
 const GREATEST_LIMIT: u32 = 4096;
+
+/// Where handles are fresh, each millisecond has so many of its own.
+const HANDLES_OF_A_MILLISECOND: u64 = 1 << 20;
+
+/// Moments below this one, in milliseconds since 1970, have them: they end in the year 2109.
+const MOMENTS: u64 = 1 << 42;
 
 /// The number from 1 to the highest that a value writes, and the default where it writes none.
 fn number_or(value: &[u8], highest: u32, default: u32) -> u32
@@ -76,4 +82,19 @@ pub fn port_of(options: &Options) -> u16
     ensures { result ≡ port_of options.now }
 {
     number_or(option_value(options, b"relay.port.weechat"), 65535, 9000) as u16
+}
+
+/// The handle below which handles are passed over in a run that starts at this moment, in milliseconds
+/// since 1970. It is 0 but where `relay.network.handles` is `fresh`.
+#[tactic(auto, unfolding(crate::specs::Limits::first_handle))]
+pub(crate) fn first_handle(options: &Options, moment: u64) -> u64
+    ensures { result ≡ first_handle options.now moment }
+{
+    if option_value(options, b"relay.network.handles") != b"fresh".as_slice() {
+        return 0;
+    }
+    if moment >= MOMENTS {
+        return 0;
+    }
+    moment * HANDLES_OF_A_MILLISECOND
 }

@@ -24,5 +24,7 @@ pub mod MaskLemmas
 pub mod ErrandLemmas
 pub mod SentLemmas
 pub mod LoginLemmas
+pub mod PrivateLemmas
+pub mod PrivateLawLemmas
 pub mod ServerNameLemmas
 pub mod CommandLawLemmas

@@ -20,6 +20,9 @@ pub mod NamesSeen
 pub mod NewBuffers
 pub mod NickActs
 pub mod OwnSpeech
+pub mod PrivateBuffers
+pub mod PrivateLaws
+pub mod PrivatesSeen
 pub mod ReadySeen
 pub mod RenameActs
 pub mod SentLines

@@ -36,6 +36,8 @@ pub record ServerState : Type 0 where
   pub features : Features
   -- the joined channels in the order of joining
   pub channels : List Joined
+  -- how many private buffers messages may open
+  pub private_max : ℕ
 
 abbrev pub is_own : ServerState → List ℕ → Bool
 is_own s nick = is_same s.features.case_map nick s.nick

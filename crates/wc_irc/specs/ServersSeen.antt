@@ -21,4 +21,5 @@ seen s = record {
   is_registered = s.is_registered;
   features = s.features;
   channels = map joined s.channels.items;
+  private_max = s.private_max;
 }

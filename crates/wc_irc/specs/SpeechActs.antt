@@ -17,12 +17,13 @@ use Rattle.wc_irc.specs.Lines.{said, nick_tag, host_tag}
 use Rattle.wc_irc_texts.specs.ModeBits.{highest}
 use Rattle.wc_irc_texts.specs.Names.{is_channel, begins_with_text}
 use Rattle.wc_irc.specs.NewBuffers.{opened, name_or}
+use Rattle.wc_irc.specs.PrivateBuffers.{opens_too_many}
 use Rattle.wc_irc_texts.specs.Rows.{param}
 use Rattle.wc_irc_nicks.specs.Seats.{seat_of}
 use Rattle.wc_irc.specs.Servers.{ServerState}
 use Rattle.wc_irc_texts.specs.Speech.{calls_nick}
 use Rattle.wc_irc.specs.TalkActs.{on_server, on_found, aimed}
-use Rattle.wc_irc.specs.Targets.{found, full_name}
+use Rattle.wc_irc.specs.Targets.{server_buffer, found, full_name}
 use Rattle.wc_irc_texts.specs.Statuses.{status_sign}
 use Rattle.wc_irc_texts.specs.Texts.{plain}
 
@@ -148,8 +149,22 @@ on_target groups s target nick line =
     then on_found (found groups s (aimed s target)) (λ buffer. line buffer ∷ [])
     else on_private s nick line (found groups s nick)
 
+-- ---- what others say is a line of the server's own buffer where it would open one private buffer
+-- too many
+
+abbrev pub heard_privately : EntryGroups → ServerState → List ℕ → (List ℕ → Act) →
+    Option (List ℕ) → List Act
+heard_privately groups s nick line there = if opens_too_many groups s there
+    then line (server_buffer s.name) ∷ [] else on_private s nick line there
+
+abbrev pub heard_on : EntryGroups → ServerState → List ℕ → List ℕ → (List ℕ → Act) → List Act
+heard_on groups s target nick line =
+    if is_channel s.features.chan_types (aimed s target)
+    then on_found (found groups s (aimed s target)) (λ buffer. line buffer ∷ [])
+    else heard_privately groups s nick line (found groups s nick)
+
 abbrev pub talk_acts : EntryGroups → ServerState → Message → Bool → List ℕ → List Act
-talk_acts groups s m does text = on_target groups s (param 0 m) m.nick
+talk_acts groups s m does text = heard_on groups s (param 0 m) m.nick
     (talk_line s (param 0 m) m.nick does text (talk_tags s m does))
 
 abbrev pub acts_of_talk : EntryGroups → ServerState → Message → Talk → List Act

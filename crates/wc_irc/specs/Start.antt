@@ -1,9 +1,10 @@
 -- A server when its connection is begun: what its options give, or why it is not connected.
 use Rattle.std.specs.Prelude.{ℕ, Bool, false, ◌&&◌, nat_le, List, [], ◌++◌, length, filter, drop}
 use Rattle.std.specs.Prelude.{bytes_eq, codes, unwrap_or, Option, Some, None, Result, Ok, Err}
-use Rattle.std.specs.Prelude.{if◌then◌else◌}
+use Rattle.std.specs.Prelude.{option_and_then, if◌then◌else◌}
 use Rattle.wc_text.specs.declared.names.Address.{Address}
 use Rattle.wc_options.specs.Address.{address_of}
+use Rattle.wc_options.specs.Number.{number_in}
 use Rattle.wc_options.specs.Options.{OptionsValue, value_of}
 use Rattle.wc_irc.specs.declared.refused.ServerRefused.{ServerRefused}
 use Rattle.wc_irc.specs.declared.refused.ServerRefused.TheVariants.{TlsOn, BadAddress}
@@ -50,6 +51,13 @@ first_negotiation options server =
     (option_of options server (codes "capabilities"))
     (option_of options server (codes "sasl_fail"))
 
+-- ---- private buffers: as many as there may be buffers in all where the option has no such number,
+-- which no value of it has not
+
+unfoldable pub private_max_of : OptionsValue → ℕ
+private_max_of options = unwrap_or (option_and_then (number_in 1 256)
+    (value_of options (codes "irc.look.private_max"))) 256
+
 -- ---- the server
 
 unfoldable pub first_state : OptionsValue → List ℕ → Address → ServerState
@@ -69,6 +77,7 @@ first_state options server address = record {
   is_registered = false;
   features = default_features;
   channels = [];
+  private_max = private_max_of options;
 }
 
 abbrev pub start_at : OptionsValue → List ℕ → Option Address → Result ServerState ServerRefused

@@ -138,6 +138,10 @@ impl Server {
     /// and takes it out where the name is no nick or another one's. A MODE and a list of names (353)
     /// move nicks between the groups of PREFIX. What is said privately opens the buffer of its nick.
     ///
+    /// Where so many private buffers of the server are there as `irc.look.private_max` had it when the
+    /// connection was begun, and that is below 256, what would open another one is printed on the
+    /// server's own buffer instead, with the same tags and levels.
+    ///
     /// While 1,024 channels are joined, the own JOIN of another one joins nothing: it is a line of the
     /// server's own buffer, as any message that is not known, and so are that channel's names.
     ///

@@ -9,10 +9,10 @@ ghost use Rattle.wc_irc.specs.Lines.{said, nick_tag, host_tag};
 ghost use Rattle.wc_irc_texts.specs.Rows.{param};
 ghost use Rattle.wc_irc_texts.specs.Speech.{calls_nick};
 ghost use Rattle.wc_irc.specs.SpeechActs.{without_space, seat_in, sign_of, sign_or, shown_nick, talk_line};
-ghost use Rattle.wc_irc.specs.SpeechActs.{notify_tag, talk_tags, on_private, talk_acts};
-ghost use Rattle.wc_irc.specs.SpeechActs.{privmsg_acts};
+ghost use Rattle.wc_irc.specs.SpeechActs.{notify_tag, talk_tags, on_private, heard_privately};
+ghost use Rattle.wc_irc.specs.SpeechActs.{talk_acts, privmsg_acts};
 ghost use Rattle.wc_irc.specs.TalkActs.{on_server, on_found, aimed};
-ghost use Rattle.wc_irc.specs.Targets.{found};
+ghost use Rattle.wc_irc.specs.Targets.{server_buffer, found};
 ghost use Rattle.wc_irc_texts.specs.Statuses.{status_sign};
 ghost use Rattle.wc_irc_texts.specs.Texts.{plain};
 
@@ -20,10 +20,11 @@ use crate::act::Act;
 use crate::channel_acts::channel_at;
 use crate::lines::{one_tag, put_host_tag, put_nick_tag, put_tag, said};
 use crate::new_buffers::put_opened;
+use crate::private_buffers::opens_too_many;
 use crate::state::State;
 use crate::talk::{Talk, talk_heard};
 use crate::talk_acts::{aimed, put_on_server};
-use crate::targets::found;
+use crate::targets::{found, server_buffer};
 use std::alloc::Global;
 use wc_buffers::Buffers;
 use wc_irc_texts::{ModeSet, calls_nick, is_channel, joined, param, plain, sign_at, status_sign};
@@ -258,21 +259,60 @@ fn put_on_channel(
 fn put_on_private(
     acts: &mut Items<Act>,
     alloc: Global,
+    state: &State,
+    m: &Message,
+    voice: Voice<'_>,
+    there: Option<Text>,
+) -> Result<(), NoMemory>
+    requires { IsUtf8 voice.nick.now }
+    ensures { OnOk result (acts.new ≡ acts.old ++ on_private (seen state.now)
+        voice.entry.nick.now (talk_line (seen state.now) voice.entry.target.now
+        voice.entry.nick.now voice.entry.does voice.entry.text.now
+        (talk_tags (seen state.now) m.now voice.entry.does)) there) }
+{
+    let buffer = put_opened(acts, alloc, state, b"private", voice.nick, there)?;
+    put_talk_line(acts, alloc, state, m, voice, buffer.as_slice())
+}
+
+/// On the server's own buffer, where what is said privately gets none.
+fn put_instead(
+    acts: &mut Items<Act>,
+    alloc: Global,
+    state: &State,
+    m: &Message,
+    voice: Voice<'_>,
+) -> Result<(), NoMemory>
+    ensures { OnOk result (acts.new ≡ acts.old ++ talk_line (seen state.now)
+        voice.entry.target.now voice.entry.nick.now voice.entry.does voice.entry.text.now
+        (talk_tags (seen state.now) m.now voice.entry.does)
+        (server_buffer state.now.name) ∷ []) }
+{
+    let buffer = server_buffer(alloc, state.name.as_slice())?;
+    put_talk_line(acts, alloc, state, m, voice, buffer.as_slice())
+}
+
+/// On the private buffer of the nick, or on the server's own where it would be one too many.
+fn put_privately(
+    acts: &mut Items<Act>,
+    alloc: Global,
     buffers: &Buffers,
     state: &State,
     m: &Message,
     voice: Voice<'_>,
 ) -> Result<(), NoMemory>
     requires { IsUtf8 voice.nick.now }
-    ensures { OnOk result (acts.new ≡ acts.old ++ on_private (seen state.now)
+    ensures { OnOk result (acts.new ≡ acts.old ++ heard_privately buffers.now (seen state.now)
         voice.entry.nick.now (talk_line (seen state.now) voice.entry.target.now
         voice.entry.nick.now voice.entry.does voice.entry.text.now
         (talk_tags (seen state.now) m.now voice.entry.does))
         (found buffers.now (seen state.now) voice.entry.nick.now)) }
 {
     let there = found(alloc, buffers, state, voice.nick)?;
-    let buffer = put_opened(acts, alloc, state, b"private", voice.nick, there)?;
-    put_talk_line(acts, alloc, state, m, voice, buffer.as_slice())
+    if opens_too_many(buffers, state, &there) {
+        drop(there);
+        return put_instead(acts, alloc, state, m, voice);
+    }
+    put_on_private(acts, alloc, state, m, voice, there)
 }
 
 fn put_talk(
@@ -300,7 +340,7 @@ fn put_talk(
     ) {
         put_on_channel(acts, alloc, buffers, state, m, voice)
     } else {
-        put_on_private(acts, alloc, buffers, state, m, voice)
+        put_privately(acts, alloc, buffers, state, m, voice)
     }
 }
 

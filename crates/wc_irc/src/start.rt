@@ -4,14 +4,16 @@ ghost use Rattle.wc_irc_texts.specs.Features.{default_features};
 ghost use Rattle.wc_irc.specs.Servers.{first_of};
 ghost use Rattle.wc_irc.specs.ServersSeen.{seen};
 ghost use Rattle.wc_irc.specs.Start.{option_of, address_in, is_tls, may_be_tried, nicks_of};
-ghost use Rattle.wc_irc.specs.Start.{server_nicks, first_negotiation, first_state, start_of};
+ghost use Rattle.wc_irc.specs.Start.{server_nicks, first_negotiation, private_max_of, first_state};
+ghost use Rattle.wc_irc.specs.Start.{start_of};
 ghost use Rattle.wc_irc.specs.declared.refused.ServerRefused.TheVariants as Refused;
 
+use crate::private_buffers::MOST_BUFFERS;
 use crate::refused::ServerRefused;
 use crate::state::{Login, State};
 use std::alloc::Global;
 use wc_irc_texts::{Features, Negotiation, is_nick, joined};
-use wc_options::{Options, read_address};
+use wc_options::{Options, number_in, read_address};
 use wc_text::{Address, Items, NoMemory, Text, split_once};
 
 /// The most bytes of a nick that is tried, so that the `_` that may come to it have room.
@@ -144,6 +146,20 @@ fn first_negotiation(
     )
 }
 
+/// How many private buffers messages may open.
+#[tactic(auto, unfolding(crate::specs::Start::private_max_of))]
+fn private_max(options: &Options) -> u32
+    ensures { result ≡ private_max_of options.now }
+{
+    let Some(value) = options.get(b"irc.look.private_max") else {
+        return MOST_BUFFERS;
+    };
+    match number_in(value.as_slice(), 1, MOST_BUFFERS) {
+        Some(number) => number,
+        None => MOST_BUFFERS,
+    }
+}
+
 /// A server of which nothing is known yet but what its options give.
 fn made(
     alloc: Global,
@@ -153,6 +169,7 @@ fn made(
     nicks: Items<Text>,
     negotiation: Negotiation,
     features: Features,
+    private_max: u32,
 ) -> Result<State, NoMemory>
     requires { features ≡ default_features }
     ensures { IfOk result (λ state. seen state ≡ record {
@@ -171,6 +188,7 @@ fn made(
       is_registered = false;
       features = default_features;
       channels = [];
+      private_max = private_max;
     }) }
 {
     let nick = first_nick(alloc, nicks.as_slice())?;
@@ -188,6 +206,7 @@ fn made(
         is_registered: false,
         features,
         channels: Vec::new(alloc),
+        private_max,
     })
 }
 
@@ -206,7 +225,17 @@ fn first_state(
     let login = login(alloc, options, server)?;
     let negotiation = first_negotiation(alloc, options, server)?;
     let name = Text::from_slice(alloc, server)?;
-    made(alloc, name, address, login, nicks, negotiation, features)
+    let private_max = private_max(options);
+    made(
+        alloc,
+        name,
+        address,
+        login,
+        nicks,
+        negotiation,
+        features,
+        private_max,
+    )
 }
 
 fn first_at(

@@ -42,6 +42,8 @@ pub(crate) struct State {
     pub(crate) features: Features,
     /// The joined channels in the order of joining.
     pub(crate) channels: Vec<Channel>,
+    /// How many private buffers messages may open.
+    pub(crate) private_max: u32,
 }
 
 /// How many nicks were tried after one more, of which there need not be so many.

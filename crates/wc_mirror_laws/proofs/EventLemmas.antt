@@ -28,6 +28,7 @@ use Rattle.wc_mirror_laws.proofs.ChangeLemmas.{mirror-append}
 use Rattle.wc_mirror_laws.proofs.InputLemmas.{Tells-start}
 use Rattle.wc_mirror_laws.proofs.LimitLemmas.{stays_second, suits_before}
 use Rattle.wc_mirror_laws.proofs.ServerLemmas.{Tells-line, Tells-loss, Tells-stands}
+use Rattle.wc_mirror_laws.proofs.SkipLemmas.{begun_stays, begun_had}
 use Rattle.wc_mirror_laws.proofs.StepLemmas.{arrived, asked_here, ticked, kept-ticked, reply_link, reply_text, right-answers, reply_plain, counts_replies}
 
 -- ---- what the client of a link asks at an event
@@ -154,7 +155,7 @@ lost_right which limit link id state k why (Some client) part kept free plain af
 pub step_mirrors : (which : HeldPart) → StepMirrors which
 step_mirrors which limit link id state (Start moment) part kept free within fair plain after stays had =
     let tells = Tells-start which limit link id state moment free kept in
-    tells.right (sym tells.following ∙ after) plain stays part had
+    tells.right (sym tells.following ∙ after) plain (begun_stays limit state moment (step state (Start moment)).state.world stays) part (begun_had which part state moment had)
 step_mirrors which limit link id state (Tick moment) part kept free within fair plain after stays had =
     push_right which limit link id (ticked state moment) part (kept-ticked link state moment kept) free after had
 step_mirrors which limit link id state (Arrives k nonce) part kept free within fair plain after stays had = by (nat_lt (length state.clients) (client_limit state.options)) where

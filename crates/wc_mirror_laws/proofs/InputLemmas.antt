@@ -13,7 +13,7 @@ use Rattle.wc_options.specs.declared.refusal.SetRefused.{SetRefused}
 use Rattle.wc_options.specs.declared.refusal.SetRefused.TheVariants.{UnknownOption}
 use Rattle.wc_core.specs.Resolved.{Effect, Stays, Ends as ResolvedEnds, Tells as TellsRefusal, Asks, SetsOption, UnsetsOption, SavesOptions, ChangesHotlist, ChangesFilters, effect_of, option_text}
 use Rattle.wc_core.specs.State.{State, Stepped, has_end}
-use Rattle.wc_core.specs.Step.{no_step, then_does, set_step_if, set_step, unset_step_if, unset_step, limit_change, limit_step, set_effect_step, unset_effect_step, refused, ask_step, effect_step, other_of, input_by, input_step, lines_step, core_buffer, commands_step, start_step, plain_step, Evaluation, evaluated_by, input_with, eval_step, evaluation_at}
+use Rattle.wc_core.specs.Step.{no_step, then_does, set_step_if, set_step, unset_step_if, unset_step, limit_change, limit_step, set_effect_step, unset_effect_step, refused, ask_step, effect_step, other_of, input_by, input_step, lines_step, core_buffer, commands_step, start_step, begun_state, plain_step, Evaluation, evaluated_by, input_with, eval_step, evaluation_at}
 use Rattle.wc_core.specs.Changing.{put_step, save_step, hotlist_step}
 use Rattle.wc_core.specs.News.{rows_used}
 use Rattle.wc_core.specs.Limits.{lines_option, limit_set, limit_unset}
@@ -30,6 +30,7 @@ use Rattle.wc_mirror_laws.proofs.LimitLemmas.{counts_same}
 use Rattle.wc_mirror_laws.proofs.NewsLemmas.{news_put, news_by_command}
 use Rattle.wc_mirror_laws.proofs.ServedLemmas.{Tells-all, Tells-serves}
 use Rattle.wc_mirror_laws.proofs.ServerLemmas.{Tells-before, Tells-quits}
+use Rattle.wc_mirror_laws.proofs.SkipLemmas.{begun_kept}
 use Rattle.wc_mirror_laws.proofs.TypedLemmas.{OnAsks, parted_text, typed_text, resolved_told}
 use Rattle.wc_core.specs.Evaluated.{value_at, holds_at, answer_text, printed_value}
 use Rattle.std.specs.Str.{is_utf8}
@@ -218,19 +219,15 @@ Tells-commands which limit link id state (command ∷ commands) free kept utf8 =
     by true first others = first
     by false first others = Tells-then which limit link id state one (λ next. commands_step next commands) first (others one.state first.kept)
 
--- the state in which the commands of the start are run
-abbrev pub opened_at : State → ℕ → State
-opened_at state moment = record state { moment = moment; commands = [] }
-
 -- and after them the servers that are connected by themselves
 pub Tells-start : (which : HeldPart) (limit : Option ℕ) (link : ℕ) (id : List ℕ) (state : State) (moment : ℕ) → BeginsWithout 95 id → IsStateKept link state
-    → Tells which limit link id (opened_at state moment) (start_step (opened_at state moment) state.commands)
+    → Tells which limit link id (begun_state state moment) (start_step (begun_state state moment) state.commands)
 Tells-start which limit link id state moment free kept =
-    by (has_end one.acts) (Tells-commands which limit link id (opened_at state moment) state.commands free (record { most = kept.most; world = kept.world; once = kept.once; shown = kept.shown; told = kept.told; texts = tt; rows = kept.rows; news = kept.news; there = kept.there; first = kept.first }) kept.texts)
+    by (has_end one.acts) (Tells-commands which limit link id (begun_state state moment) state.commands free (begun_kept link state moment kept) kept.texts)
   where
     one : Stepped
-    one = commands_step (opened_at state moment) state.commands
+    one = commands_step (begun_state state moment) state.commands
 
-    by : (quits : Bool) → Tells which limit link id (opened_at state moment) one → Tells which limit link id (opened_at state moment) (cond quits one (then_does one connect_all_step))
+    by : (quits : Bool) → Tells which limit link id (begun_state state moment) one → Tells which limit link id (begun_state state moment) (cond quits one (then_does one connect_all_step))
     by true first = first
-    by false first = Tells-then which limit link id (opened_at state moment) one connect_all_step first (Tells-all which limit link id free one.state first.kept)
+    by false first = Tells-then which limit link id (begun_state state moment) one connect_all_step first (Tells-all which limit link id free one.state first.kept)

@@ -39,6 +39,7 @@ mod ServedLemmas
 mod ServerLemmas
 pub mod ShownLemmas
 mod SizeLemmas
+mod SkipLemmas
 mod SpeltLemmas
 mod StepLemmas
 mod TellingLemmas

@@ -24,11 +24,12 @@ use Rattle.wc_irc.specs.Dates.{moment_of, dated, dated_what, dated_acts}
 use Rattle.wc_irc.specs.InviteActs.{is_of_another, invite_on}
 use Rattle.wc_irc.specs.NameActs.{placed, placed_all, seats_in, names_in, names_on, names_acts}
 use Rattle.wc_irc.specs.NewBuffers.{opened, name_or}
+use Rattle.wc_irc.specs.PrivateBuffers.{opens_too_many}
 use Rattle.wc_irc.specs.NickActs.{add_group, add_groups, add_nick, remove_nick, emptied}
 use Rattle.wc_irc.specs.RenameActs.{come_again, nick_line, rename_on, rename_as, rename_of, renamed_buffer, rename_private, own_var, own_vars, nick_acts}
 use Rattle.wc_irc.specs.Servers.{ServerState, is_own, own_nick_from, may_try, next_nick}
 use Rattle.wc_irc.specs.ServerActs.{acts_of_kind, acts_of_server, kind_to}
-use Rattle.wc_irc.specs.SpeechActs.{Talk, Says, Does, Requests, talk_heard, talk_line, talk_tags, on_private, on_target, acts_of_talk, privmsg_acts}
+use Rattle.wc_irc.specs.SpeechActs.{Talk, Says, Does, Requests, talk_heard, talk_line, talk_tags, on_private, on_target, heard_privately, heard_on, acts_of_talk, privmsg_acts}
 use Rattle.wc_irc.specs.TalkActs.{on_found, aimed, sent, other_acts, taken_acts, has_var, differs, told_nick, tell_nick, welcome_line, raised, welcome_acts, notice_line, notice_acts}
 use Rattle.wc_irc.specs.Targets.{found, full_name, server_buffer}
 use Rattle.wc_irc.specs.TitleActs.{topic_on, topic_reply_on, names_end_on, mode_reply_on}
@@ -186,11 +187,18 @@ mild_target groups s target nick line each =
 pub mild_talk : (groups : EntryGroups) (s : ServerState) (target nick from : List ℕ) (does : Bool) (text : List ℕ) (tags : List (List ℕ)) → AreMild (on_target groups s target nick (talk_line s target from does text tags))
 mild_talk groups s target nick from does text tags = mild_target groups s target nick (talk_line s target from does text tags) (λ buffer. mild_talk_line s target from does text tags buffer)
 
+-- what others say, which may be a line of the server's own buffer
+mild_heard : (groups : EntryGroups) (s : ServerState) (target nick : List ℕ) (line : List ℕ → Act) → ((buffer : List ℕ) → IsMildAct (line buffer)) → AreMild (heard_on groups s target nick line)
+mild_heard groups s target nick line each =
+    let there = found groups s nick in
+    mild_if (is_channel s.features.chan_types (aimed s target)) _ (heard_privately groups s nick line there) (mild_found (found groups s (aimed s target)) (λ buffer. line buffer ∷ []) (λ buffer. (each buffer, tt)))
+    (mild_if (opens_too_many groups s there) (line (server_buffer s.name) ∷ []) (on_private s nick line there) (each (server_buffer s.name), tt) (mild_private s nick line there each))
+
 mild_privmsg : (groups : EntryGroups) (s : ServerState) (m : Message) → AreMild (privmsg_acts groups s m)
 mild_privmsg groups s m = by (talk_heard m) where
   by : (talk : Talk) → AreMild (acts_of_talk groups s m talk)
-  by (Says text) = mild_talk groups s (param 0 m) m.nick m.nick false text (talk_tags s m false)
-  by (Does deed) = mild_talk groups s (param 0 m) m.nick m.nick true deed (talk_tags s m true)
+  by (Says text) = mild_heard groups s (param 0 m) m.nick (talk_line s (param 0 m) m.nick false text (talk_tags s m false)) (λ buffer. mild_talk_line s (param 0 m) m.nick false text (talk_tags s m false) buffer)
+  by (Does deed) = mild_heard groups s (param 0 m) m.nick (talk_line s (param 0 m) m.nick true deed (talk_tags s m true)) (λ buffer. mild_talk_line s (param 0 m) m.nick true deed (talk_tags s m true) buffer)
   by (Requests word) = mild_line (server_buffer s.name) _ _ _
 
 mild_notice : (groups : EntryGroups) (s : ServerState) (m : Message) → AreMild (notice_acts groups s m)

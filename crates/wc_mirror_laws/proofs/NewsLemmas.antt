@@ -20,11 +20,13 @@ use Rattle.wc_model.specs.World.{World}
 use Rattle.wc_servers.specs.Outs.{Out}
 use Rattle.wc_core.specs.Changing.{no_step, reach_step, then_does, after_out, way_after}
 use Rattle.wc_core.specs.News.{hotlist_after, rows_used}
+use Rattle.wc_core.specs.Events.{Event}
 use Rattle.wc_core.specs.State.{State, Act, Stage, Stepped, outs_of}
+use Rattle.wc_core.specs.Step.{step}
 use Rattle.wc_core.specs.declared.typed_hotlist.HotlistUse.{HotlistUse}
 use Rattle.wc_core.specs.declared.typed_hotlist.HotlistUse.TheVariants as hotlist
 use Rattle.wc_mirror_laws.specs.Changes.{IsTold}
-use Rattle.wc_mirror_laws.specs.News.{AreNews, pairs_of_line, pairs_after, AreStages, ComesTo}
+use Rattle.wc_mirror_laws.specs.News.{AreNews, pairs_of_line, pairs_after, AreStages, ComesTo, world_at}
 use Rattle.wc_mirror_laws.specs.Worlds.{IsWorldKept}
 use Rattle.wc_mirror_laws.proofs.HotlistNews.{room}
 use Rattle.wc_mirror_laws.proofs.NoticeLemmas.{target_there}
@@ -67,6 +69,10 @@ change_means limit w h a hot pairs is told good news means = means
 
 abbrev pub News : State → Stepped → Type 0
 News state stepped = (pairs : List HotPair) → Means state.hotlist pairs → ComesTo state.world pairs stepped
+
+-- the same of an event
+abbrev pub EventNews : State → Event → Type 0
+EventNews state event = (pairs : List HotPair) → Means state.hotlist pairs → ComesTo (world_at state event) pairs (step state event)
 
 pub news_stays : (state : State) → News state (no_step state)
 news_stays state pairs means = record { final = pairs; means = means; stages = (refl, refl) }

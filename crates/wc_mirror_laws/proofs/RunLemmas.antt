@@ -9,15 +9,17 @@ use Rattle.wc_core.specs.Events.{Event}
 use Rattle.wc_core.specs.State.{State}
 use Rattle.wc_core.specs.Step.{step, run}
 use Rattle.wc_hotlist.proofs.MeansLaws.{none_means}
+use Rattle.wc_hotlist.specs.Means.{Means}
+use Rattle.wc_hotlist.specs.Pairs.{HotPair}
 use Rattle.wc_mirror_laws.specs.Held.{HeldPart, HeldOf, nothing, Has}
 use Rattle.wc_mirror_laws.specs.Settled.{AskedFor, asked_in, asked_on, client_on, follows_all, is_following, StaysPlain, IsLimited, LimitStays, TakesDump, IsFair}
 use Rattle.wc_mirror_laws.specs.Kept.{IsStateKept}
+use Rattle.wc_mirror_laws.specs.News.{EventsCome}
 use Rattle.wc_mirror_laws.specs.Mirrors.{mirror_after, beginning, IsShortLine, Mirrors, RunKeeps, RunMeans}
 use Rattle.wc_mirror_laws.proofs.ChangeLemmas.{mirror-append}
 use Rattle.wc_mirror_laws.proofs.HotlistNews.{news_none}
 use Rattle.wc_mirror_laws.proofs.LimitLemmas.{limited_before, limited_stays}
 use Rattle.wc_mirror_laws.proofs.ListLemmas.{all_front, all_back}
-use Rattle.wc_mirror_laws.proofs.NewsLemmas.{News, news_stays, news_then}
 use Rattle.wc_mirror_laws.proofs.ShownLemmas.{once-first, shown-first}
 use Rattle.wc_mirror_laws.proofs.WorldLemmas.{first_lists, first_kept}
 use Rattle.wc_mirror_laws.proofs.StepLemmas.{step_keeps, step_counts, step_news, followed}
@@ -149,14 +151,15 @@ kept_on link state (event ∷ events) kept = kept_on link (step state event).sta
 pub run_keeps : RunKeeps
 run_keeps oracle options lines commands connects events link most texts = kept_on link (beginning oracle options lines commands connects) events (start_kept lines link oracle options commands connects most texts)
 
-news_on : (link : ℕ) (state : State) (events : List Event) → IsStateKept link state → News state (run state events)
-news_on link state [] kept = news_stays state
-news_on link state (event ∷ events) kept =
-    news_then state (step state event) (λ next. run next events) (step_news link state event kept) (news_on link (step state event).state events (step_keeps link state event kept))
+news_on : (link : ℕ) (state : State) (pairs : List HotPair) (events : List Event) → IsStateKept link state → Means state.hotlist pairs → EventsCome state pairs events
+news_on link state pairs [] kept means = tt
+news_on link state pairs (event ∷ events) kept means =
+    let comes = step_news link state event kept pairs means in
+    (comes, news_on link (step state event).state comes.final events (step_keeps link state event kept) comes.means)
 
 pub run_means : RunMeans
 run_means oracle options lines commands connects events most texts =
-    news_on 0 (beginning oracle options lines commands connects) events (start_kept lines 0 oracle options commands connects most texts) [] none_means
+    news_on 0 (beginning oracle options lines commands connects) [] events (start_kept lines 0 oracle options commands connects most texts) none_means
 
 pub mirrors : (which : HeldPart) → Mirrors which
 mirrors which limit oracle options lines commands connects events link id most texts within settled limited =

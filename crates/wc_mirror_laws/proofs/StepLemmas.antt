@@ -35,7 +35,7 @@ use Rattle.wc_mirror_laws.proofs.ClientLemmas.{following-push, first-push, first
 use Rattle.wc_mirror_laws.proofs.ChangeLemmas.{mirror-append}
 use Rattle.wc_mirror_laws.proofs.InputLemmas.{Tells-runs, Tells-start}
 use Rattle.wc_mirror_laws.proofs.LimitLemmas.{Counts, counts_same, counts_then}
-use Rattle.wc_mirror_laws.proofs.NewsLemmas.{News, news_stays, news_put, news_then}
+use Rattle.wc_mirror_laws.proofs.NewsLemmas.{News, EventNews, news_stays, news_put, news_then}
 use Rattle.wc_mirror_laws.proofs.ServerLemmas.{Tells-line, Tells-loss, Tells-stands}
 use Rattle.wc_mirror_laws.proofs.AskedLemmas.{before_reply, asked_after, Tells-before, OnInput, input_stays}
 use Rattle.wc_mirror_laws.proofs.PushLemmas.{Tells-pushes}
@@ -209,7 +209,9 @@ counts_lost link state k why None kept = (Tells-loss Lines None link [] tt k why
 counts_lost link state k why (Some client) kept = counts_same state.world
 
 pub step_counts : (link : ℕ) (state : State) (event : Event) → IsStateKept link state → Counts state.world (step state event).state.world
-step_counts link state (Start moment) kept = (Tells-start Lines None link [] state moment tt kept).counts
+step_counts link state (Start moment) kept =
+    let counts = (Tells-start Lines None link [] state moment tt kept).counts in
+    record { grows = counts.grows; stays = counts.stays }
 step_counts link state (Tick moment) kept = counts_same state.world
 step_counts link state (Arrives k nonce) kept = by (nat_lt (length state.clients) (client_limit state.options)) where
   by : (b : Bool) → Counts state.world (arrived state k nonce b).state.world
@@ -257,7 +259,7 @@ news_lost : (link : ℕ) (state : State) (k : ℕ) (why : Cause) (o : Option Cli
 news_lost link state k why None kept = (Tells-loss Lines None link [] tt k why state (at_key server_link k state.servers) kept).news
 news_lost link state k why (Some client) kept = news_put state (leave_step state k why).state (leave_step state k why).acts refl refl
 
-pub step_news : (link : ℕ) (state : State) (event : Event) → IsStateKept link state → News state (step state event)
+pub step_news : (link : ℕ) (state : State) (event : Event) → IsStateKept link state → EventNews state event
 step_news link state (Start moment) kept = (Tells-start Lines None link [] state moment tt kept).news
 step_news link state (Tick moment) kept = (Tells-pushes Lines None link [] (ticked state moment) tt (kept-ticked link state moment kept)).news
 step_news link state (Arrives k nonce) kept = by (nat_lt (length state.clients) (client_limit state.options)) where

@@ -175,7 +175,7 @@ relined limit w v k ms is same more ended groups each lines few printed apart no
 grown : (n m : ℕ) → n ≤ m → (e : BufferEntry) → IsBufferKept n e → IsBufferKept m e
 grown n m le e is = record { fit = is.fit; names = is.names; some = is.some; below = (let b = is.below in omega arith); own = (let b = is.own in omega arith); mixed = (let b = is.mixed in omega arith) }
 
-all_grown : (n m : ℕ) → n ≤ m → (gs : EntryGroups) → AllByRecursion (IsBufferKept n) (rows gs) → AllByRecursion (IsBufferKept m) (rows gs)
+pub all_grown : (n m : ℕ) → n ≤ m → (gs : EntryGroups) → AllByRecursion (IsBufferKept n) (rows gs) → AllByRecursion (IsBufferKept m) (rows gs)
 all_grown n m le gs a = all_more (IsBufferKept n) (IsBufferKept m) (rows gs) (grown n m le) a
 
 -- other lines of a buffer that is there

@@ -23,7 +23,7 @@ use Rattle.wc_mirror_laws.specs.Settled.{AskedFor, asked_in, client_on, is_follo
 use Rattle.wc_mirror_laws.specs.Settled.{TakesDump, SettledBy, IsPlain, IsLimited, LimitStays}
 use Rattle.wc_mirror_laws.specs.Changes.{IsTold, IsAsked}
 use Rattle.wc_mirror_laws.specs.Kept.{IsStateKept, IsKeptButFlags}
-use Rattle.wc_mirror_laws.specs.News.{ComesTo}
+use Rattle.wc_mirror_laws.specs.News.{EventsCome}
 use Rattle.wc_eval.specs.Verdicts.{Oracle}
 
 -- what a client has of a part after one message and another
@@ -106,8 +106,7 @@ abbrev pub RunMeans : Type 0
 RunMeans = (oracle : Oracle) (options : OptionsValue) (lines : ℕ)
     (commands : List (List ℕ)) (connects : Bool)
     (events : List Event) → lines ≤ 4096 → AllByRecursion IsUtf8 commands →
-    ComesTo (beginning oracle options lines commands connects).world []
-    (run (beginning oracle options lines commands connects) events)
+    EventsCome (beginning oracle options lines commands connects) [] events
 
 -- The same of an accepted change of any kind that the core is asked for, be it of a nicklist, and
 -- whoever asked for it.

@@ -12,7 +12,9 @@ use Rattle.wc_model.specs.declared.change.What.{What}
 use Rattle.wc_model.specs.declared.change.What.TheVariants.{Print, Close}
 use Rattle.wc_model.specs.Apply.{after}
 use Rattle.wc_model.specs.World.{World}
-use Rattle.wc_core.specs.State.{Stage, Stepped}
+use Rattle.wc_core.specs.Events.{Event, Start}
+use Rattle.wc_core.specs.State.{State, Stage, Stepped}
+use Rattle.wc_core.specs.Step.{begun_state, step}
 
 -- each row is of a buffer that is there
 abbrev pub AreThere : EntryGroups → List HotRow → Type 0
@@ -74,3 +76,14 @@ pub record ComesTo (world : World) (pairs : List HotPair) (stepped : Stepped) : 
   pub final : List HotPair
   pub means : Means stepped.state.hotlist final
   pub stages : AreStages world pairs stepped.way stepped.state.world final
+
+-- the world that what is done at an event begins with
+abbrev pub world_at : State → Event → World
+world_at state (Start moment) = (begun_state state moment).world
+world_at state _ = state.world
+
+-- each event comes through its stages from the pairs that those before it came to
+abbrev pub EventsCome : State → List HotPair → List Event → Type 0
+EventsCome state pairs [] = Unit {0}
+EventsCome state pairs (event ∷ events) = (comes : ComesTo (world_at state event) pairs
+    (step state event)) × EventsCome (step state event).state comes.final events

@@ -226,7 +226,7 @@ stored-remove options defaults no_address names place stored = record {
 
 -- ---- the places that are read
 
-length-globals : length globals ≡ 17
+length-globals : length globals ≡ 19
 unfolding globals
 length-globals = refl
 
@@ -234,7 +234,7 @@ length-of_server : length of_server ≡ 12
 unfolding of_server
 length-of_server = refl
 
-pub length-set_values : (options : OptionsValue) → AreOptionsKept options → length options.set ≡ 17
+pub length-set_values : (options : OptionsValue) → AreOptionsKept options → length options.set ≡ 19
 length-set_values options kept = FitAll-length unset_at_first globals options.set kept.set_fit ∙ length-globals
 
 pub length-own_values : (servers : List ServerOptions) (place : ℕ) (d : ServerOptions) → place < length servers → AreServers servers → length (get_or servers place d).own ≡ 12

@@ -15,11 +15,11 @@ use Rattle.wc_options.specs.declared.refusal.SetRefused.TheVariants.{TooManyServ
 use Rattle.wc_options.proofs.KeptLemmas.{FitAll-unset, stored-own, length-own_values}
 use Rattle.wc_options.proofs.ServersLemmas.{IsAt-position, find_at, find_none, put_own_at, put_own_none, reset_own_at, without_at, without_none}
 
-length-globals : length globals ≡ 17
+length-globals : length globals ≡ 19
 unfolding globals
 length-globals = refl
 
-pub length-defaults : (defaults : List (List ℕ)) → defaults ≡ map (λ (row : OptionRow). row.default) globals → length defaults ≡ 17
+pub length-defaults : (defaults : List (List ℕ)) → defaults ≡ map (λ (row : OptionRow). row.default) globals → length defaults ≡ 19
 length-defaults defaults e = ap length e ∙ length-map globals (λ row. row.default) ∙ length-globals
 
 abbrev pub default_of : OptionRow → List ℕ
@@ -27,17 +27,17 @@ default_of row = row.default
 
 -- ---- the first options
 
-pub defaults_more : (place : ℕ) → place < 17 → map default_of (take (place + 1) globals) ≡ map default_of (take place globals) ++ (row_at globals place).default ∷ []
+pub defaults_more : (place : ℕ) → place < 19 → map default_of (take (place + 1) globals) ≡ map default_of (take place globals) ++ (row_at globals place).default ∷ []
 defaults_more place h =
     let below : place < length globals = rw length-globals h in
     map_more default_of globals place no_row below
 
-pub unset_more : (place : ℕ) → place < 17 → map unset_at_first (take (place + 1) globals) ≡ map unset_at_first (take place globals) ++ None ∷ []
+pub unset_more : (place : ℕ) → place < 19 → map unset_at_first (take (place + 1) globals) ≡ map unset_at_first (take place globals) ++ None ∷ []
 unset_more place h =
     let below : place < length globals = rw length-globals h in
     map_more unset_at_first globals place no_row below
 
-pub globals_all : (place : ℕ) → 17 ≤ place → take place globals ≡ globals
+pub globals_all : (place : ℕ) → 19 ≤ place → take place globals ≡ globals
 globals_all place h = take_all place globals (rw length-globals h)
 
 pub ruleset first_options = (defaults_more, unset_more, globals_all)
@@ -66,7 +66,7 @@ global_value-some options place read value at h e =
     rw own refl
 
 pub global_value-none : (options : OptionsValue) (place : ℕ) (read : Option (List ℕ)) (defaults : List (List ℕ)) (default : List ℕ)
-    → read ≡ get_or options.set place read → place < length options.set → read ≡ None → defaults ≡ map default_of globals → place < 17 → default ≡ get_or defaults place default
+    → read ≡ get_or options.set place read → place < length options.set → read ≡ None → defaults ≡ map default_of globals → place < 19 → default ≡ get_or defaults place default
     → default ≡ global_value options place
 global_value-none options place read defaults default at h e are below there =
     let own : get_or options.set place None ≡ None = sym (get_or_read options.set place read h at None) ∙ e in

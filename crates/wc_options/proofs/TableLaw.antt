@@ -23,67 +23,7 @@ pub globals-AreNamed : AreNamed 0 globals
 unfolding globals located place_in
 globals-AreNamed =
     let name : (text : List ℕ) (place : ℕ) → ((rest : List ℕ) → is_passed_over (text ++ rest) ≡ false) → list_all no_blank text ≡ true → list_all no_lf text ≡ true → list_all is_ascii text ≡ true → located text ≡ Some (AtGlobal place) → IsNameAt text (AtGlobal place)
-    = λ text place begins plain whole ascii here. record { begins = begins; plain = plain; whole = whole; text = text-from_ascii text ascii; here = here } in (
-      name _ 0 (λ rest. refl) refl refl refl refl,
-      refl,
-      (
-        name _ 1 (λ rest. refl) refl refl refl refl,
-        refl,
-        (
-          name _ 2 (λ rest. refl) refl refl refl refl,
-          refl,
-          (
-            name _ 3 (λ rest. refl) refl refl refl refl,
-            refl,
-            (
-              name _ 4 (λ rest. refl) refl refl refl refl,
-              refl,
-              (
-                name _ 5 (λ rest. refl) refl refl refl refl,
-                refl,
-                (
-                  name _ 6 (λ rest. refl) refl refl refl refl,
-                  refl,
-                  (
-                    name _ 7 (λ rest. refl) refl refl refl refl,
-                    refl,
-                    (
-                      name _ 8 (λ rest. refl) refl refl refl refl,
-                      refl,
-                      (
-                        name _ 9 (λ rest. refl) refl refl refl refl,
-                        refl,
-                        (
-                          name _ 10 (λ rest. refl) refl refl refl refl,
-                          refl,
-                          (
-                            name _ 11 (λ rest. refl) refl refl refl refl,
-                            refl,
-                            (
-                              name _ 12 (λ rest. refl) refl refl refl refl,
-                              refl,
-                              (
-                                name _ 13 (λ rest. refl) refl refl refl refl,
-                                refl,
-                                (
-                                  name _ 14 (λ rest. refl) refl refl refl refl,
-                                  refl,
-                                  (name _ 15 (λ rest. refl) refl refl refl refl, refl, (name _ 16 (λ rest. refl) refl refl refl refl, refl, tt)),
-                                ),
-                              ),
-                            ),
-                          ),
-                        ),
-                      ),
-                    ),
-                  ),
-                ),
-              ),
-            ),
-          ),
-        ),
-      ),
-    )
+    = λ text place begins plain whole ascii here. record { begins = begins; plain = plain; whole = whole; text = text-from_ascii text ascii; here = here } in (name _ 0 (λ rest. refl) refl refl refl refl, refl, (name _ 1 (λ rest. refl) refl refl refl refl, refl, (name _ 2 (λ rest. refl) refl refl refl refl, refl, (name _ 3 (λ rest. refl) refl refl refl refl, refl, (name _ 4 (λ rest. refl) refl refl refl refl, refl, (name _ 5 (λ rest. refl) refl refl refl refl, refl, (name _ 6 (λ rest. refl) refl refl refl refl, refl, (name _ 7 (λ rest. refl) refl refl refl refl, refl, (name _ 8 (λ rest. refl) refl refl refl refl, refl, (name _ 9 (λ rest. refl) refl refl refl refl, refl, (name _ 10 (λ rest. refl) refl refl refl refl, refl, (name _ 11 (λ rest. refl) refl refl refl refl, refl, (name _ 12 (λ rest. refl) refl refl refl refl, refl, (name _ 13 (λ rest. refl) refl refl refl refl, refl, (name _ 14 (λ rest. refl) refl refl refl refl, refl, (name _ 15 (λ rest. refl) refl refl refl refl, refl, (name _ 16 (λ rest. refl) refl refl refl refl, refl, (name _ 17 (λ rest. refl) refl refl refl refl, refl, (name _ 18 (λ rest. refl) refl refl refl refl, refl, tt)))))))))))))))))))
 
 -- ---- the options of a server
 

@@ -27,7 +27,7 @@ place_in-below : (name : List ℕ) (rows : List OptionRow) (place : ℕ) → pla
 unfolding place_in
 place_in-below name rows place e = (position-Some (λ row. bytes_eq row.name name) rows place no_row e).0
 
-length-globals : length globals ≡ 17
+length-globals : length globals ≡ 19
 unfolding globals
 length-globals = refl
 
@@ -35,7 +35,7 @@ length-of_server : length of_server ≡ 12
 unfolding of_server
 length-of_server = refl
 
-pub place_in_globals : (name : List ℕ) (place : ℕ) → place_in name globals ≡ Some place → place < 17
+pub place_in_globals : (name : List ℕ) (place : ℕ) → place_in name globals ≡ Some place → place < 19
 place_in_globals name place e = rw (← length-globals) (place_in-below name globals place e)
 
 pub place_in_of_server : (name : List ℕ) (place : ℕ) → place_in name of_server ≡ Some place → place < 12
@@ -79,11 +79,11 @@ first_value_other (suc place) h ne = first_of (suc place) h ∙ none_in 11 place
 
 pub ruleset first_values = (first_value_zero, first_value_other)
 
-stands-are : map stands_for of_server ≡ None ∷ Some 6 ∷ Some 8 ∷ Some 7 ∷ Some 9 ∷ Some 10 ∷ Some 11 ∷ Some 12 ∷ Some 13 ∷ Some 14 ∷ Some 15 ∷ Some 16 ∷ []
+stands-are : map stands_for of_server ≡ None ∷ Some 8 ∷ Some 10 ∷ Some 9 ∷ Some 11 ∷ Some 12 ∷ Some 13 ∷ Some 14 ∷ Some 15 ∷ Some 16 ∷ Some 17 ∷ Some 18 ∷ []
 unfolding of_server globals place_in
 stands-are = refl
 
-pub stands_for_reads : (place : ℕ) (d : Option ℕ) → place < 12 → stands_for (row_at of_server place) ≡ get_or (None ∷ Some 6 ∷ Some 8 ∷ Some 7 ∷ Some 9 ∷ Some 10 ∷ Some 11 ∷ Some 12 ∷ Some 13 ∷ Some 14 ∷ Some 15 ∷ Some 16 ∷ []) place d
+pub stands_for_reads : (place : ℕ) (d : Option ℕ) → place < 12 → stands_for (row_at of_server place) ≡ get_or (None ∷ Some 8 ∷ Some 10 ∷ Some 9 ∷ Some 11 ∷ Some 12 ∷ Some 13 ∷ Some 14 ∷ Some 15 ∷ Some 16 ∷ Some 17 ∷ Some 18 ∷ []) place d
 stands_for_reads place d h =
     let below : place < length of_server = rw length-of_server h in
     sym (get_or-map stands_for of_server place no_row d below) ∙ ap (λ list. get_or list place d) stands-are

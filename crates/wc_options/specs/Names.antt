@@ -45,7 +45,7 @@ row_of_located (AtServer server place) = row_at of_server place
 
 -- it is in the table
 abbrev pub IsInTable : Located → Type 0
-IsInTable (AtGlobal place) = place < 17
+IsInTable (AtGlobal place) = place < 19
 IsInTable (AtServer server place) = place < 12
 
 -- the server that it names may have that name

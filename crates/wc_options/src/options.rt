@@ -151,7 +151,7 @@ impl Options {
     }
 
     fn global_value(&self, place: usize) -> &Text
-        requires { place < 17 }
+        requires { place < 19 }
         ensures { result.now ≡ global_value self.now place }
     {
         match &self.set[place] {
@@ -329,7 +329,7 @@ impl Options {
     }
 
     fn put_global(&mut self, place: usize, value: Option<Text>)
-        requires place { place < 17 }
+        requires place { place < 19 }
         requires fits { Fits unset_at_first (row_at globals place) value }
         ensures { self.new ≡ record self.old { set = slice_set self.old.set place value } }
     {

@@ -44,17 +44,17 @@ pub(crate) fn own_at_first(alloc: Global, place: usize) -> Option<Text>
 /// have none of their own.
 const STANDS_FOR: [Option<usize>; 12] = [
     None,
-    Some(6),
     Some(8),
-    Some(7),
-    Some(9),
     Some(10),
+    Some(9),
     Some(11),
     Some(12),
     Some(13),
     Some(14),
     Some(15),
     Some(16),
+    Some(17),
+    Some(18),
 ];
 
 /// The option of the program that an option of a server stands for, by their places.

@@ -28,16 +28,21 @@ const MEGABYTES: Kind = Kind::Number {
     highest: 4096,
 };
 
+const PRIVATES: Kind = Kind::Number {
+    lowest: 1,
+    highest: 256,
+};
+
 const PORT: Kind = Kind::Number {
     lowest: 1,
     highest: 65535,
 };
 
 /// How many options the program has.
-pub(crate) const GLOBAL_COUNT: usize = 17;
+pub(crate) const GLOBAL_COUNT: usize = 19;
 
 /// The options of the program, in the order in which the file has them.
-pub(crate) const GLOBALS: [Row; 17] = [
+pub(crate) const GLOBALS: [Row; 19] = [
     Row {
         name: b"weechat.history.max_buffer_lines_number",
         kind: LINES,
@@ -69,10 +74,22 @@ pub(crate) const GLOBALS: [Row; 17] = [
         range: b"0 to 4096",
     },
     Row {
+        name: b"relay.network.handles",
+        kind: Kind::Text,
+        default: b"counted",
+        range: b"counted, fresh, read at the start",
+    },
+    Row {
         name: b"relay.port.weechat",
         kind: PORT,
         default: b"9000",
         range: b"1 to 65535, read at the start",
+    },
+    Row {
+        name: b"irc.look.private_max",
+        kind: PRIVATES,
+        default: b"256",
+        range: b"1 to 256, read at the start",
     },
     Row {
         name: b"irc.server_default.nicks",
@@ -235,7 +252,7 @@ pub(crate) fn server_place(name: &[u8]) -> Option<usize>
 
 /// An option of the program.
 pub(crate) fn global_row(place: usize) -> Row
-    requires { place < 17 }
+    requires { place < 19 }
     ensures { row_of result ≡ row_at globals place }
 {
     row_in(&GLOBALS, place)

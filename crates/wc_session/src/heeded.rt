@@ -1,7 +1,7 @@
 //! The options that a session heeds.
 
 ghost use Rattle.std.specs.Prelude.{◌≡◌};
-ghost use Rattle.wc_session.specs.Heeded.{option_value, password_of, masks_of};
+ghost use Rattle.wc_session.specs.Heeded.{option_value, password_of, masks_of, most_unsent};
 
 use wc_options::{Options, number_in};
 
@@ -34,11 +34,16 @@ pub fn masks_of(options: &Options) -> &[u8]
 /// The option of how many megabytes of unsent bytes a client may have.
 const MAX_UNSENT: &[u8] = b"relay.network.max_unsent";
 
+const MEGABYTE: usize = 1_048_576;
+
 /// How many unsent bytes a client may have, where that is bounded. The option has megabytes, of which
 /// none are no bound.
-pub fn most_unsent(options: &Options) -> Option<usize> {
+#[tactic(auto, unfolding(crate::specs::Heeded::most_unsent))]
+pub fn most_unsent(options: &Options) -> Option<usize>
+    ensures { result ≡ most_unsent options.now }
+{
     match number_in(option_value(options, MAX_UNSENT), 1, 4096) {
-        Some(megabytes) => Some((megabytes as usize) << 20),
+        Some(megabytes) => Some(megabytes as usize * MEGABYTE),
         None => None,
     }
 }

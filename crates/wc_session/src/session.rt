@@ -1,4 +1,4 @@
-ghost use Rattle.std.specs.Prelude.{◌≡◌, ◌≤◌, true, false, Some, List, length, drop};
+ghost use Rattle.std.specs.Prelude.{◌≡◌, ◌≤◌, ◌<◌, true, false, Some, List, length, drop};
 ghost use Rattle.std.specs.Prelude.{IfOk, IsOk, OnOk, OnErr};
 ghost use Rattle.wc_hdata.specs.Dumps.{AreShort};
 ghost use Rattle.wc_objects.specs.declared.object.Object.{Object};
@@ -92,6 +92,10 @@ impl Session {
             (reply_of world.now (context_seen context.entry) self.old.client request)) }
         ensures refused { OnNoMemory result (self.new ≡ self.old) }
 
+        // A client that is not logged in is served only while few bytes wait to be sent to it.
+        ensures bounded { OnServed result (self.old.client.logged_in ≡ false →
+            length self.old.unsent < 65536) }
+
         // A client that is logged in gets each dump whole, where a message may be that long: a dump
         // never gives too many pointers.
         ensures dumps { OnServed result (self.old.client.logged_in ≡ true → AreShort world.now →
@@ -118,7 +122,9 @@ impl Session {
 
     /// How many bytes may wait to be sent to the client, where that is bounded: 65,536 before its
     /// login, and after it what `relay.network.max_unsent` had at its last request.
-    pub fn most_unsent(&self) -> Option<usize> {
+    pub fn most_unsent(&self) -> Option<usize>
+        ensures { self.now.client.logged_in ≡ false → result ≡ Some 65536 }
+    {
         if self.client.logged_in {
             return self.most_after_login;
         }
@@ -126,7 +132,10 @@ impl Session {
     }
 
     /// Whether the unsent bytes have reached their bound.
-    fn is_full(&self) -> bool {
+    fn is_full(&self) -> bool
+        ensures { result ≡ false → self.now.client.logged_in ≡ false →
+            length self.now.unsent < 65536 }
+    {
         match self.most_unsent() {
             Some(most) => most <= self.unsent.len(),
             None => false,

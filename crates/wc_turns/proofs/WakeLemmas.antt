@@ -18,7 +18,7 @@ use Rattle.wc_outside.specs.Keyed.{at_key}
 use Rattle.wc_core.specs.Events.{Start, Tick, Stands, Event}
 use Rattle.wc_core.specs.CoreView.{CoreView}
 use Rattle.wc_core.specs.State.{State, Act, Stepped}
-use Rattle.wc_core.specs.Step.{step, run, push_step, start_step}
+use Rattle.wc_core.specs.Step.{step, run, push_step, start_step, begun_state}
 use Rattle.wc_board.specs.Connections.{connection_link, leaving_on, leaving_in}
 use Rattle.wc_board.specs.Served.{StaysOrStarves}
 use Rattle.wc_core.specs.Served.{links_of, state_of, close_of, or_else, Distinct, Follows, LeavesBy, Does, KeepsSaved, WereTold, KeepsClients, outs_of, plain_beside}
@@ -222,7 +222,7 @@ pub stands-causes : (old new : CoreView) (link : ℕ) → Does old new (λ state
 stands-causes old new link does distinct k = starves-alone old new (λ state. step state (Stands link)) k (λ state. stands-closes k state link (at_key server_link link state.servers)) does distinct
 
 pub start-causes : (old new : CoreView) (moment : ℕ) → Does old new (λ state. step state (Start moment)) → Distinct (links_of old) → (k : ℕ) → StaysOrStarves (leaving_on k old.connections) (leaving_on k new.connections)
-start-causes old new moment does distinct k = starves-alone old new (λ state. step state (Start moment)) k (λ state. starts-closes k (record state { moment = moment; commands = [] }) state.commands) does distinct
+start-causes old new moment does distinct k = starves-alone old new (λ state. step state (Start moment)) k (λ state. starts-closes k (begun_state state moment) state.commands) does distinct
 
 pub tick-causes : (old new : CoreView) (moment : ℕ) → Does old new (λ state. step state (Tick moment)) → Distinct (links_of old) → (k : ℕ) → StaysOrStarves (leaving_on k old.connections) (leaving_on k new.connections)
 tick-causes old new moment does distinct k = starves-alone old new (λ state. step state (Tick moment)) k (λ state. pushes-closes k (record state { moment = moment })) does distinct
@@ -233,7 +233,7 @@ still-causes core = record { causes = λ distinct k. inl refl }
 -- the event of a wait closes no client
 pub wake-leaves : (k : ℕ) (last : Option ℕ) (moment : ℕ) (state : State) → close_of k (run state (wake_events last moment)).acts ≡ None
 wake-leaves k None moment state =
-    let next : State = record state { moment = moment; commands = [] } in
+    let next : State = begun_state state moment in
     ap (close_of k) (append-nil (start_step next state.commands).acts) ∙ starts-closes k next state.commands
 wake-leaves k (Some last) moment state = by (is_tick last moment)
   where

@@ -17,3 +17,4 @@ pub mod CutItems
 pub mod NicksDone
 pub mod LimitLemmas
 pub mod LimitDone
+pub mod HandleLemmas

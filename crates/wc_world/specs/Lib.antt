@@ -1,4 +1,5 @@
 pub mod Flips
+pub mod Handles
 pub mod Kept
 pub mod Limits
 pub mod Near

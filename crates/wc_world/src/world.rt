@@ -4,6 +4,7 @@ ghost use Rattle.std.specs.FinMap.{empty, get, insert};
 ghost use Rattle.wc_buffers.specs.Calls.{is_there, with_buffer};
 ghost use Rattle.wc_lines.specs.Held.{no_lines};
 ghost use Rattle.wc_nicklist.specs.Rows.{IsRows, Nicks as NicksValue};
+ghost use Rattle.wc_world.specs.Handles.{next_from, skip_world};
 ghost use Rattle.wc_world.specs.Kept.{held_at, held_in, lines_map, lines_view, printed_map};
 ghost use Rattle.wc_world.specs.Nicks.{rows_map, AreCut, AreNicks};
 ghost use Rattle.wc_model.specs.World.{core_row, first_world, rows_at, root_at};
@@ -53,6 +54,17 @@ impl Model for World {
 
     ghost invariant = { λ a. IsWorld a.buffers a.held a.limit a.next
         × AreNicks a.buffers a.nicks a.row_count };
+}
+
+/// The next handle after those below this one are passed over.
+#[tactic(auto, unfolding(crate::specs::Handles::next_from))]
+fn next_from(handle: u64, next: u64) -> u64
+    ensures { result ≡ next_from handle next }
+{
+    if handle > LAST_HANDLE {
+        return next;
+    }
+    next.max(handle)
 }
 
 /// What is kept of the core buffer.
@@ -144,6 +156,14 @@ impl World {
             },
             next: 5,
         })
+    }
+
+    /// Passes over the handles below this one: no change draws them. Where one of them was drawn, or
+    /// the handle is above 2^62, nothing more is passed over.
+    pub fn skip_to(&mut self, handle: u64)
+        ensures { self.new ≡ skip_world handle self.old }
+    {
+        self.next = next_from(handle, self.next);
     }
 
     /// The buffers.

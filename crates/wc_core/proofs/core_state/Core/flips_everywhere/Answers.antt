@@ -1,4 +1,4 @@
-use Rattle.std.proofs.Common.{rules, ◌≡◌, ◌++◌, [], ap, sym, ◌∙◌}
+use Rattle.std.proofs.Common.{rules, ◌≡◌, ◌++◌, ap, sym, ◌∙◌}
 use Rattle.wc_buffers.specs.Kept.{handles}
 use Rattle.wc_world.specs.Near.{all_numbers}
 use Rattle.wc_world.proofs.NearLemmas.{order_handles}
