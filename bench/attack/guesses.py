@@ -73,7 +73,7 @@ def page(program):
 
 
 ATTACKS = (
-    Attack("63 guessers by PBKDF2, a client waits", by_pbkdf2, 2, 64, False, FULL),
+    Attack("63 guessers by PBKDF2, a client waits", by_pbkdf2, 0.3, 64, True, FULL),
     Attack("63 guessers by SHA-256, a client waits", by_sha256, 2, 64, False, FULL),
     Attack("a page that tries passwords by POST", page, 1, 64),
 )
