@@ -1,5 +1,6 @@
 pub mod Meaning
 pub mod VerdictLemmas
+pub mod CacheLemmas
 pub mod GroupLemmas
 pub mod DigitLemmas
 pub mod RunLemmas

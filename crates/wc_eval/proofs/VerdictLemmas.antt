@@ -1,5 +1,5 @@
 -- Verdicts as they are kept, each under the bytes of its text.
-use Rattle.std.proofs.Common.{◌^◌, ◌<◌, length, Bor, Result, Ok, Err, IsOk, OnOk, option_copied, ◌≡◌, ◌≤◌, ◌+◌, ℕ, suc, Bool, true, false, List, [], ◌∷◌, ◌++◌, Option, Some, None, option_map, refl, ap, sym, subst, ◌∙◌, bytes_eq, is_some, IfSome, arith}
+use Rattle.std.proofs.Common.{◌^◌, ◌<◌, length, Result, Ok, Err, IsOk, OnOk, IsUtf8, ◌≡◌, ◌≤◌, ◌+◌, ℕ, suc, Bool, true, false, List, [], ◌∷◌, ◌++◌, Option, Some, None, refl, ap, sym, subst, ◌∙◌, bytes_eq, IfSome, arith}
 use Rattle.std.proofs.lemmas.Option.{none-some, same_Some}
 use Rattle.std.proofs.lemmas.Bool.{false≢true}
 use Rattle.std.proofs.lemmas.List.{length-map, length-append}
@@ -8,15 +8,19 @@ use Rattle.std.specs.Cmp.Lexicographic.{bytes_decides}
 use Rattle.std.specs.declared.alloc.Global.{Global}
 use Rattle.std.specs.declared.vec.Vec.{Vec}
 use Rattle.indexmap.specs.IndexMap.{insert_entry}
-use Rattle.regex.specs.declared.string.regex.Regex.{Regex}
 use Rattle.wc_eval.specs.declared.verdict.Verdict.{Verdict}
 use Rattle.wc_eval.specs.declared.verdict.Verdict.TheVariants.{Fine, Syntax, Other}
 use Rattle.wc_eval.specs.declared.verdict.Judgement.{Judgement}
 use Rattle.wc_eval.specs.declared.verdict.Judgement.TheVariants as judged
 use Rattle.wc_eval.specs.Verdicts.{VerdictsView, Judges, Stay, OnlyOn, IsCaused, verdict_on, verdict_in, others_in, one_if_other, AreOnce, is_fine, is_fine_by}
 use Rattle.regex.specs.Failures.{IsPattern}
+use Rattle.regex.specs.Strings.{regex_config}
+use Rattle.regex.specs.Patterns.{Reads}
+use Rattle.regex.specs.Names.{names_of}
+use Rattle.regex.specs.declared.string.regex.Regex.{Regex}
+use Rattle.wc_eval.specs.Built.{IsBuiltOf}
 use Rattle.wc_eval.specs.Matching.{folding_config}
-use Rattle.wc_eval.specs.Built.{Kept, AreBuilt, IsJudgementOf, IsBuiltOf, rows_of, verdict_of, regex_of}
+use Rattle.wc_eval.specs.Judged.{Kept, AreRight, IsRight, IsJudgementOf, rows_of, verdict_of}
 
 abbrev pub Rows : Type 0
 Rows = List (List ℕ × Verdict)
@@ -28,61 +32,52 @@ by_bool false P t f = f refl
 -- ---- looking up
 
 pub found_verdict : (text : List ℕ) (es : Kept) →
-    option_map verdict_of (lookup (λ k. bytes_eq text k.items) es) ≡ verdict_in text (rows_of es)
+    lookup (λ k. bytes_eq text k.items) es ≡ verdict_in text (rows_of es)
 found_verdict text [] = refl
 found_verdict text (e ∷ es) = by_bool (bytes_eq text e.0.items) _
     (λ t. rw t refl)
     (λ t. rw t (found_verdict text es))
 
-pub found_built : (text : List ℕ) (es : Kept) (j : Judgement) → AreBuilt es →
-    lookup (λ k. bytes_eq text k.items) es ≡ Some j → IsJudgementOf text j
-found_built text [] j built e = absurd (none-some j e)
-found_built text (e ∷ es) j built found = by_bool (bytes_eq text e.0.items) _
-    (λ t. let is : e.1 ≡ j = same_Some _ _ (rw t at found) in
-    subst (λ x. IsJudgementOf text x) is (subst (λ x. IsJudgementOf x e.1) (sym ((bytes_decides text e.0.items).0 t)) built.0))
-    (λ t. found_built text es j built.1 (rw t at found))
+-- what holds of the text of a verdict that is kept
+pub found_right : (text : List ℕ) (es : Kept) (v : Verdict) → AreRight es → verdict_in text (rows_of es) ≡ Some v → IsRight text v
+found_right text [] v right e = absurd (none-some v e)
+found_right text (e ∷ es) v right found = by_bool (bytes_eq text e.0.items) _
+    (λ t. let is : e.1 ≡ v = same_Some _ _ (rw t at found) in
+    subst (λ x. IsRight text x) is (subst (λ x. IsRight x e.1) (sym ((bytes_decides text e.0.items).0 t)) right.0))
+    (λ t. found_right text es v right.1 (rw t at found))
 
-pub regex_built : (text : List ℕ) (j : Judgement) → IsJudgementOf text j → IfSome (regex_of j) (IsBuiltOf text)
-regex_built text (judged.Built r) built = built
-regex_built text judged.Syntax built = tt
-regex_built text judged.Other built = tt
+-- what was built is a pattern
+pub built_is_pattern : (text : List ℕ) (r : Regex) → IsBuiltOf text r → IsPattern folding_config text
+built_is_pattern text r built =
+    let hir = r.pattern.program.hir in
+    let names = names_of r.pattern.names.items in
+    (hir, names, subst (λ k. Reads k text hir names) built.config
+    (subst (λ t. Reads (regex_config r) t hir names) built.source built.read))
 
-pub regex_there : (j : Judgement) → is_some (regex_of j) ≡ is_fine (verdict_of j)
-regex_there (judged.Built r) = refl
-regex_there judged.Syntax = refl
-regex_there judged.Other = refl
-
--- a text that is refused as `Syntax` is no pattern
-refused_syntax : (text : List ℕ) (j : Judgement) → IsJudgementOf text j → verdict_of j ≡ Syntax →
-    IsPattern folding_config text → ⊥
-refused_syntax text (judged.Built r) built e = absurd (fine_syntax e)
-  where
-    fine_syntax : Fine ≡ Syntax → ⊥
-    fine_syntax e = false≢true (sym (ap is_fine e))
-refused_syntax text judged.Syntax none e = none
-refused_syntax text judged.Other built e = absurd (other_syntax e)
-  where
-    other_syntax : Other ≡ Syntax → ⊥
-    other_syntax e = let one : 1 ≡ 0 = ap one_if_other e in omega (arith, one)
+-- the verdict of a judgement
+pub judged_right : (text : List ℕ) (j : Judgement) → IsUtf8 text → IsJudgementOf text j → IsRight text (verdict_of j)
+judged_right text (judged.Built pattern) utf8 is = (utf8, is.1)
+judged_right text judged.Syntax utf8 none = none
+judged_right text judged.Other utf8 is = tt
 
 -- ---- one more at the end
 
-pub entry_new : (key : Vec ℕ Global) (j : Judgement) (es : Kept) → verdict_in key.items (rows_of es) ≡ None →
+pub entry_new : (key : Vec ℕ Global) (j : Verdict) (es : Kept) → verdict_in key.items (rows_of es) ≡ None →
     insert_entry (λ a b. bytes_eq a.items b.items) es key j ≡ es ++ (key, j) ∷ []
 entry_new key j [] new = refl
 entry_new key j (e ∷ es) new = by_bool (bytes_eq key.items e.0.items) _
     (λ t. absurd (none-some _ (sym (rw t at new))))
     (λ t. rw t (ap (λ l. e ∷ l) (entry_new key j es (rw t at new))))
 
-pub rows_push : (es : Kept) (key : Vec ℕ Global) (j : Judgement) →
-    rows_of (es ++ (key, j) ∷ []) ≡ rows_of es ++ (key.items, verdict_of j) ∷ []
-rows_push [] key j = refl
-rows_push (e ∷ es) key j = ap (λ l. (e.0.items, verdict_of e.1) ∷ l) (rows_push es key j)
+pub rows_push : (es : Kept) (key : Vec ℕ Global) (v : Verdict) →
+    rows_of (es ++ (key, v) ∷ []) ≡ rows_of es ++ (key.items, v) ∷ []
+rows_push [] key v = refl
+rows_push (e ∷ es) key v = ap (λ l. (e.0.items, e.1) ∷ l) (rows_push es key v)
 
-pub built_push : (es : Kept) (key : Vec ℕ Global) (j : Judgement) → AreBuilt es → IsJudgementOf key.items j →
-    AreBuilt (es ++ (key, j) ∷ [])
-built_push [] key j built one = (one, tt)
-built_push (e ∷ es) key j built one = (built.0, built_push es key j built.1 one)
+pub right_push : (es : Kept) (key : Vec ℕ Global) (v : Verdict) → AreRight es → IsRight key.items v →
+    AreRight (es ++ (key, v) ∷ [])
+right_push [] key v right one = (one, tt)
+right_push (e ∷ es) key v right one = (right.0, right_push es key v right.1 one)
 
 pub others_push : (rows : Rows) (text : List ℕ) (v : Verdict) →
     others_in (rows ++ (text, v) ∷ []) ≡ others_in rows + one_if_other v
@@ -131,40 +126,10 @@ once_push (r ∷ rows) text v once none =
 
 -- ---- what the look-ups answer
 
-pub got_verdict : (text key : List ℕ) (es : Kept) (o : Option Judgement) (found : Option Verdict) →
-    o ≡ lookup (λ k. bytes_eq key k.items) es → key ≡ text → found ≡ option_map verdict_of o →
-    found ≡ verdict_in text (rows_of es)
+pub got_verdict : (text key : List ℕ) (es : Kept) (o found : Option Verdict) →
+    o ≡ lookup (λ k. bytes_eq key k.items) es → key ≡ text → found ≡ o → found ≡ verdict_in text (rows_of es)
 got_verdict text key es o found is same e =
-    e ∙ ap (option_map verdict_of) (is ∙ ap (λ t. lookup (λ k. bytes_eq t k.items) es) same) ∙ found_verdict text es
-
-pub got_refused : (text key : List ℕ) (es : Kept) (j : Judgement) (v : Verdict) →
-    Some j ≡ lookup (λ k. bytes_eq key k.items) es → key ≡ text → AreBuilt es → v ≡ verdict_of j →
-    Some v ≡ Some Syntax → IsPattern folding_config text → ⊥
-got_refused text key es j v is same built e syntax =
-    refused_syntax text j
-    (found_built text es j built (sym (is ∙ ap (λ t. lookup (λ k. bytes_eq t k.items) es) same)))
-    (sym e ∙ same_Some _ _ syntax)
-
-pub lent_built : (text key : List ℕ) (es : Kept) (j : Judgement) (r : Option (Bor Regex)) →
-    Some j ≡ lookup (λ k. bytes_eq key k.items) es → key ≡ text → AreBuilt es → option_copied r ≡ regex_of j →
-    IfSome r (λ x. IsBuiltOf text x.now)
-lent_built text key es j r is same built e =
-    lent r (subst (λ o. IfSome o (IsBuiltOf text)) (sym e)
-    (regex_built text j (found_built text es j built (sym (is ∙ ap (λ t. lookup (λ k. bytes_eq t k.items) es) same)))))
-  where
-    lent : (r : Option (Bor Regex)) → IfSome (option_copied r) (IsBuiltOf text) → IfSome r (λ x. IsBuiltOf text x.now)
-    lent None built = tt
-    lent (Some x) built = built
-
-pub lent_there : (text key : List ℕ) (es : Kept) (j : Judgement) (r : Option (Bor Regex)) →
-    Some j ≡ lookup (λ k. bytes_eq key k.items) es → key ≡ text → option_copied r ≡ regex_of j →
-    is_some r ≡ is_fine_by (verdict_in text (rows_of es))
-lent_there text key es j r is same e =
-    lent r ∙ ap is_some e ∙ regex_there j ∙ ap is_fine_by (got_verdict text key es (Some j) (Some (verdict_of j)) is same refl)
-  where
-    lent : (r : Option (Bor Regex)) → is_some r ≡ is_some (option_copied r)
-    lent None = refl
-    lent (Some x) = refl
+    e ∙ is ∙ ap (λ t. lookup (λ k. bytes_eq t k.items) es) same ∙ found_verdict text es
 
 pub ok_holds : {A E X : Type 0} (r : Result A E) → IsOk r → OnOk r X → X
 ok_holds (Ok x) ok holds = holds
@@ -187,14 +152,25 @@ counted rows Fine text before now most few later caused = omega (arith, most, la
 counted rows Syntax text before now most few later caused = omega (arith, most, later)
 counted rows Other text before now most few later caused = let all = others_few rows in omega (arith, most, few, caused, all)
 
-pub others_kept : (es : Kept) (key : Vec ℕ Global) (j : Judgement) (text : List ℕ) (before now : ℕ) →
-    others_in (rows_of es) ≤ before → length (es ++ (key, j) ∷ []) < 2 ^ 64 → before ≤ now →
-    IsCaused before now text (verdict_of j) → others_in (rows_of (es ++ (key, j) ∷ [])) ≤ now
-others_kept es key j text before now most few later caused =
+pub others_kept : (es : Kept) (key : Vec ℕ Global) (v : Verdict) (text : List ℕ) (before now : ℕ) →
+    others_in (rows_of es) ≤ before → length (es ++ (key, v) ∷ []) < 2 ^ 64 → before ≤ now →
+    IsCaused before now text v → others_in (rows_of (es ++ (key, v) ∷ [])) ≤ now
+others_kept es key v text before now most few later caused =
     let long : length (rows_of es) ≡ length es = length-map _ _ in
-    let more : length (es ++ (key, j) ∷ []) ≡ length es + 1 = length-append es _ in
-    rw (rows_push es key j, others_push (rows_of es) key.items (verdict_of j))
-    (counted (rows_of es) (verdict_of j) text before now most (omega (arith, few, long, more)) later caused)
+    let more : length (es ++ (key, v) ∷ []) ≡ length es + 1 = length-append es _ in
+    rw (rows_push es key v, others_push (rows_of es) key.items v)
+    (counted (rows_of es) v text before now most (omega (arith, few, long, more)) later caused)
+
+-- where no verdict comes, each stays
+pub stay_rows : (old new : VerdictsView) → new.rows ≡ old.rows → old.others ≤ new.others → Stay old new
+stay_rows old new same later = record {
+  rows = λ text. subst (λ rows. IfSome (verdict_in text old.rows) (λ v. verdict_in text rows ≡ Some v)) (sym same) (own (verdict_in text old.rows));
+  others = later;
+}
+  where
+    own : (o : Option Verdict) → IfSome o (λ v. o ≡ Some v)
+    own None = tt
+    own (Some v) = refl
 
 stay_push : (old new : VerdictsView) (row : List ℕ × Verdict) → new.rows ≡ old.rows ++ row ∷ [] → old.others ≤ new.others → Stay old new
 stay_push old new row is later = record {

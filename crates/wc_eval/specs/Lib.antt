@@ -1,6 +1,7 @@
 pub mod Matching
 pub mod Verdicts
 pub mod Built
+pub mod Judged
 pub mod Texts
 pub mod Sums
 pub mod Signs

@@ -156,21 +156,23 @@ fn finds(
 /// Whether a text has a match of a pattern that was judged to be one.
 fn found_by(
     alloc: Global,
-    verdicts: &Verdicts,
+    verdicts: &mut Verdicts,
     text: &Text,
     pattern: &Text,
 ) -> Result<bool, NoMemory>
     requires text { IsUtf8 text.now }
-    requires known { IsTrue (is_known_fine pattern.now verdicts.now) }
-    ensures { IfOk result (λ found. found ≡ is_found pattern.now text.now) }
+    requires known { IsTrue (is_known_fine pattern.now verdicts.old) }
+    ensures found { IfOk result (λ found. found ≡ is_found pattern.now text.now) }
+    ensures rows { verdicts.new.rows ≡ verdicts.old.rows }
+    ensures stay { Stay verdicts.old verdicts.new }
 {
-    let Some(regex) = verdicts.pattern(pattern) else {
+    let Some(own) = verdicts.pattern(pattern)? else {
         unreachable!()
     };
     let Ok(text) = std::str::from_utf8(text.as_slice()) else {
         unreachable!()
     };
-    is_match(alloc, regex, text)
+    is_match(alloc, own.regex(), text)
 }
 
 /// Whether a comparison of two values holds. A text that is no pattern is found in none, whatever

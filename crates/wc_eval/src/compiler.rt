@@ -1,4 +1,4 @@
-ghost use Rattle.std.specs.Prelude.{◌≡◌, ◌+◌, ◌^◌, ◌≤◌, IfOk, IfErr};
+ghost use Rattle.std.specs.Prelude.{◌≡◌, ◌+◌, ◌^◌, ◌≤◌, IfOk, IfErr, OnOk};
 ghost use Rattle.std.specs.Str.{IsUtf8};
 ghost use Rattle.regex.specs.Failures.{IsPattern};
 ghost use Rattle.regex.specs.Strings.{regex_size};
@@ -53,6 +53,7 @@ impl Compiler {
         ensures built { IfOk result (IsBuiltOf pattern.now) }
         ensures small { IfOk result (λ regex. regex_size regex ≤ 2 ^ 20 + 24) }
         ensures later { self.old.others ≤ self.new.others }
+        ensures fine { OnOk result (self.new.others ≡ self.old.others) }
         ensures syntax { IfErr result (λ refused. refused ≡ CompileRefused.Syntax →
             IsPattern folding_config pattern.now → ⊥) }
         ensures other { IfErr result (λ refused. refused ≡ CompileRefused.Other →

@@ -3,7 +3,7 @@
 ghost use Rattle.std.specs.Prelude.{◌≡◌, All, IfOk, IsTrue, slice_range};
 ghost use Rattle.std.specs.Str.{IsUtf8};
 ghost use Rattle.wc_eval.specs.Matching.{all_groups_in};
-ghost use Rattle.wc_eval.specs.Verdicts.{is_known_fine};
+ghost use Rattle.wc_eval.specs.Verdicts.{Stay, is_known_fine};
 ghost use Rattle.wc_eval.specs.Replaced.{text_between, group_text, group_texts, match_span};
 
 use crate::characters::as_text;
@@ -14,21 +14,23 @@ use std::alloc::Global;
 use wc_text::{Items, NoMemory, Text};
 
 /// For each match of a pattern that was judged to be one, from the left, what it spans and what each
-/// of its groups spans. Refused for want of memory alone.
+/// of its groups spans. No verdict comes of it. Refused as `Verdicts::pattern` refuses.
 pub fn matches_of(
     alloc: Global,
-    verdicts: &Verdicts,
+    verdicts: &mut Verdicts,
     text: &Text,
     pattern: &Text,
 ) -> Result<Items<Items<Span>>, NoMemory>
     requires text { IsUtf8 text.now }
-    requires known { IsTrue (is_known_fine pattern.now verdicts.now) }
-    ensures { IfOk result (λ matches. matches ≡ all_groups_in pattern.now text.now) }
+    requires known { IsTrue (is_known_fine pattern.now verdicts.old) }
+    ensures matches { IfOk result (λ matches. matches ≡ all_groups_in pattern.now text.now) }
+    ensures rows { verdicts.new.rows ≡ verdicts.old.rows }
+    ensures stay { Stay verdicts.old verdicts.new }
 {
-    let Some(regex) = verdicts.pattern(pattern) else {
+    let Some(own) = verdicts.pattern(pattern)? else {
         unreachable!()
     };
-    all_groups(alloc, regex, as_text(text.as_slice()))
+    all_groups(alloc, own.regex(), as_text(text.as_slice()))
 }
 
 /// The bytes between two places, as far as there are some.

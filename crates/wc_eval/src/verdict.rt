@@ -1,8 +1,7 @@
 ghost use Rattle.std.specs.Prelude.{◌≡◌};
-ghost use Rattle.std.specs.Option.{option_copied};
-ghost use Rattle.wc_eval.specs.Built.{verdict_of, regex_of};
+ghost use Rattle.wc_eval.specs.Judged.{verdict_of};
 
-use regex::Regex;
+use crate::pattern::Pattern;
 
 /// What was found of a text that was judged as a pattern.
 #[derive(Clone, Copy, PartialEq, Eq, Debug)]
@@ -15,10 +14,10 @@ pub enum Verdict {
     Other,
 }
 
-/// What is kept of a text that was judged as a pattern.
+/// What a text that is judged as a pattern comes to.
 #[derive(Drop)]
 pub(crate) enum Judgement {
-    Built(Regex),
+    Built(Pattern),
     Syntax,
     Other,
 }
@@ -31,15 +30,6 @@ impl Judgement {
             Judgement::Built(_) => Verdict::Fine,
             Judgement::Syntax => Verdict::Syntax,
             Judgement::Other => Verdict::Other,
-        }
-    }
-
-    pub(crate) fn regex(&self) -> Option<&Regex>
-        ensures { option_copied result ≡ regex_of self.now }
-    {
-        match self {
-            Judgement::Built(regex) => Some(regex),
-            Judgement::Syntax | Judgement::Other => None,
         }
     }
 }

@@ -2,28 +2,34 @@ ghost use Rattle.std.specs.Prelude.{◌≡◌, ◌<◌, ◌≤◌, ◌++◌, ◌
 ghost use Rattle.std.specs.Prelude.{is_some, length};
 ghost use Rattle.std.specs.Str.{IsUtf8};
 ghost use Rattle.wc_eval.specs.Verdicts.{verdict_on, is_known_fine, is_fine, others_in, AreOnce};
-ghost use Rattle.wc_eval.specs.Verdicts.{IsCaused, Judges, OnlyOn, verdict_in};
+ghost use Rattle.wc_eval.specs.Verdicts.{IsCaused, Judges, OnlyOn, Stay, verdict_in};
 ghost use Rattle.wc_eval.specs.Matching.{folding_config};
 ghost use Rattle.regex.specs.Failures.{IsPattern};
 ghost use Rattle.indexmap.specs.IndexMap.{spare};
 ghost use Rattle.wc_eval.specs.declared.verdict.Verdict.{Verdict};
-ghost use Rattle.wc_eval.specs.Built.{IsBuiltOf, IsJudgementOf, verdict_of, rows_of};
+ghost use Rattle.wc_eval.specs.declared.verdict.Verdict.TheVariants.{Fine};
+ghost use Rattle.wc_eval.specs.Judged.{IsJudgementOf, verdict_of, rows_of};
 
 use crate::compiler::{CompileRefused, Compiler};
+use crate::pattern::Pattern;
+use crate::pattern_cache::PatternCache;
 use crate::verdict::{Judgement, Verdict};
 use indexmap::IndexMap;
-use regex::Regex;
 use std::alloc::Global;
 use std::marker::Model;
 use wc_text::{NoMemory, Text};
 
-/// The texts that were judged as patterns, each of them once, with what was built. A verdict that
-/// was given stays.
+/// The texts that were judged as patterns, each of them once, and the 256 patterns that were used
+/// last, built. A verdict that was given stays.
+///
+/// A verdict costs its text and about a hundred bytes, as long as the program runs. What is built of
+/// a pattern takes about a megabyte at most, and is given back as 256 others are used after it.
 #[derive(Drop)]
 pub struct Verdicts {
     alloc: Global,
     compiler: Compiler,
-    judged: IndexMap<Vec<u8>, Judgement>,
+    judged: IndexMap<Vec<u8>, Verdict>,
+    built: PatternCache,
 }
 
 impl Model for Verdicts {
@@ -33,9 +39,9 @@ impl Model for Verdicts {
 
     ghost use Rattle.std.specs.Prelude.{◌≤◌};
     ghost use Rattle.wc_eval.specs.Verdicts.{others_in, AreOnce};
-    ghost use Rattle.wc_eval.specs.Built.{AreBuilt, rows_of};
+    ghost use Rattle.wc_eval.specs.Judged.{AreRight, rows_of};
 
-    ghost invariant = { λ s. AreBuilt s.judged.entries × AreOnce (rows_of s.judged.entries)
+    ghost invariant = { λ s. AreRight s.judged.entries × AreOnce (rows_of s.judged.entries)
         × (others_in (rows_of s.judged.entries) ≤ s.compiler.others) };
 
     ghost view = { λ s. record { rows = rows_of s.judged.entries; others = s.compiler.others } };
@@ -51,10 +57,34 @@ fn build(compiler: &mut Compiler, alloc: Global, pattern: &Text) -> Result<Judge
     ensures failed { OnErr result (compiler.new.others ≡ compiler.old.others) }
 {
     match compiler.compile(alloc, pattern) {
-        Ok(regex) => Ok(Judgement::Built(regex)),
+        Ok(regex) => Ok(Judgement::Built(Pattern::new(alloc, regex)?)),
         Err(CompileRefused::Syntax) => Ok(Judgement::Syntax),
         Err(CompileRefused::Other) => Ok(Judgement::Other),
         Err(CompileRefused::NoMemory) => Err(NoMemory),
+    }
+}
+
+/// Builds a pattern again. A refusal for another cause, of what was built before, is counted and
+/// answered as want of memory.
+fn build_again(compiler: &mut Compiler, alloc: Global, pattern: &Text) -> Result<Pattern, NoMemory>
+    requires utf8 { IsUtf8 pattern.now }
+    requires fine { IsPattern folding_config pattern.now }
+    ensures built { IfOk result (λ own. own ≡ pattern.now) }
+    ensures later { compiler.old.others ≤ compiler.new.others }
+{
+    match compiler.compile(alloc, pattern) {
+        Ok(regex) => Pattern::new(alloc, regex),
+        Err(CompileRefused::Syntax) => unreachable!(),
+        Err(CompileRefused::Other) | Err(CompileRefused::NoMemory) => Err(NoMemory),
+    }
+}
+
+/// Keeps what was built of a text, if something was.
+fn keep(built: &mut PatternCache, text: &[u8], judgement: Judgement)
+    requires { IsJudgementOf text.now judgement }
+{
+    if let Judgement::Built(own) = judgement {
+        built.keep(text, own);
     }
 }
 
@@ -67,6 +97,7 @@ impl Verdicts {
             alloc,
             compiler: Compiler::new(),
             judged: IndexMap::new(alloc),
+            built: PatternCache::new(alloc)?,
         })
     }
 
@@ -87,20 +118,48 @@ impl Verdicts {
         ensures syntax { result ≡ Some Verdict.Syntax → IsPattern folding_config pattern.now → ⊥ }
     {
         match self.judged.get(pattern.as_slice()) {
-            Some(judgement) => Some(judgement.verdict()),
+            Some(verdict) => Some(*verdict),
             None => None,
         }
     }
 
-    /// The pattern that was built of a text. None exactly where the text was not judged to be one.
-    pub fn pattern(&self, pattern: &Text) -> Option<&Regex>
-        ensures built { IfSome result (λ regex. IsBuiltOf pattern.now regex.now) }
-        ensures there { is_some result ≡ is_known_fine pattern.now self.now }
+    /// How many patterns are kept built.
+    pub fn built_count(&self) -> usize
+        ensures most { result ≤ 256 }
     {
-        match self.judged.get(pattern.as_slice()) {
-            Some(judgement) => judgement.regex(),
-            None => None,
+        self.built.len()
+    }
+
+    /// The pattern that a text was judged to be. None exactly where it was not judged to be one. No
+    /// verdict comes of it.
+    ///
+    /// One that is not kept is built again. Refused for want of memory, and should what was built
+    /// before be refused now for another cause, which `others` then counts.
+    pub fn pattern(&mut self, pattern: &Text) -> Result<Option<Pattern>, NoMemory>
+        ensures built { IfOk result (λ found. IfSome found (λ own. own ≡ pattern.now)) }
+        ensures there { IfOk result (λ found. is_some found ≡ is_known_fine pattern.now self.old) }
+        ensures rows { self.new.rows ≡ self.old.rows }
+        ensures stay { Stay self.old self.new }
+    {
+        match self.verdict(pattern) {
+            Some(Verdict::Fine) => Ok(Some(self.fine_pattern(pattern)?)),
+            _ => Ok(None),
         }
+    }
+
+    /// The pattern that a text was judged to be, which may have to be built again.
+    fn fine_pattern(&mut self, pattern: &Text) -> Result<Pattern, NoMemory>
+        requires { verdict_on pattern.now self.old ≡ Some Fine }
+        ensures built { IfOk result (λ own. own ≡ pattern.now) }
+        ensures rows { self.new.rows ≡ self.old.rows }
+        ensures later { self.old.others ≤ self.new.others }
+    {
+        if let Some(own) = self.built.find(pattern.as_slice())? {
+            return Ok(own);
+        }
+        let own = build_again(&mut self.compiler, self.alloc, pattern)?;
+        self.built.keep(pattern.as_slice(), own.share()?);
+        Ok(own)
     }
 
     /// Whether the text is a pattern. A new verdict is false only where the grammar reads no
@@ -135,19 +194,20 @@ impl Verdicts {
         self.judged.reserve(1)?;
         let judgement = build(&mut self.compiler, self.alloc, pattern)?;
         let verdict = judgement.verdict();
-        let _count = put(&mut self.judged, key, judgement);
+        let _count = put(&mut self.judged, key, verdict);
+        keep(&mut self.built, pattern.as_slice(), judgement);
         Ok(verdict)
     }
 }
 
-/// Puts a judgement after the others. It answers how many there are then, and takes no memory.
-fn put(judged: &mut IndexMap<Vec<u8>, Judgement>, key: Vec<u8>, judgement: Judgement) -> usize
+/// Puts a verdict after the others. It answers how many there are then, and takes no memory.
+fn put(judged: &mut IndexMap<Vec<u8>, Verdict>, key: Vec<u8>, verdict: Verdict) -> usize
     requires room { 0 < spare judged.old }
     requires new { verdict_in key.items (rows_of judged.old.entries) ≡ None }
-    ensures entries { judged.new.entries ≡ judged.old.entries ++ (key, judgement) ∷ [] }
+    ensures entries { judged.new.entries ≡ judged.old.entries ++ (key, verdict) ∷ [] }
     ensures count { result ≡ length judged.new.entries }
 {
-    let Ok(_) = judged.insert(key, judgement) else {
+    let Ok(_) = judged.insert(key, verdict) else {
         unreachable!()
     };
     judged.len()

@@ -139,6 +139,11 @@ fn answer_on_text(
     }
 }
 
+/// How many patterns are kept built.
+fn put_built(verdicts: &Verdicts, out: &mut String) -> Result<(), Wrong> {
+    Ok(write!(out, "{} patterns", verdicts.built_count())?)
+}
+
 /// Writes the answer of a call.
 pub fn answer(
     alloc: Global,
@@ -149,6 +154,7 @@ pub fn answer(
 ) -> Result<(), Wrong> {
     match call {
         "compare" => put_comparison(alloc, verdicts, rest, out),
+        "built" => put_built(verdicts, out),
         _ => answer_on_text(alloc, verdicts, call, rest, out),
     }
 }

@@ -2,8 +2,9 @@
 //! and its answer.
 //!
 //! Each word of the command line is the name of a file. Each line of it is a call: `eval`,
-//! `condition`, `calc` or `judge` and a text, or `compare`, the sign and two texts. Lines that are
-//! empty or begin with `#` are passed over. Nothing is claimed here: what is printed is compared.
+//! `condition`, `calc` or `judge` and a text, `compare`, the sign and two texts, or `built` alone, how
+//! many patterns are kept built. Lines that are empty or begin with `#` are passed over. Nothing is
+//! claimed here: what is printed is compared.
 #![tactic(auto)]
 
 mod calls;

@@ -3,7 +3,7 @@ use Rattle.std.proofs.Common.{◌≡◌, ℕ, Bool, true, false, ◌&&◌, ◌||
 use Rattle.std.specs.Prelude.{All}
 use Rattle.std.specs.List.{list_any}
 use Rattle.std.proofs.lemmas.Option.{same_Some}
-use Rattle.std.proofs.lemmas.List.Elements.{All-filter, All-head, All-tail, All-push, All-map}
+use Rattle.std.proofs.lemmas.List.Elements.{All-filter, All-push, All-map}
 use Rattle.std.proofs.Math.Seq.{take-length}
 use Rattle.std.proofs.lemmas.List.{drop_all, take_all}
 use Rattle.std.proofs.lemmas.Bool.{and_parts, and_from}
@@ -83,11 +83,11 @@ known_by text None p stays fine = absurd (cc)
 known_by text (Some v) p stays fine = ap is_fine_by stays ∙ fine
 
 module _ (old new : VerdictsView) (stay : Stay old new) where
-  half_later : (pattern : List ℕ) → half_is_known old pattern ≡ true → half_is_known new pattern ≡ true
+  pub half_later : (pattern : List ℕ) → half_is_known old pattern ≡ true → half_is_known new pattern ≡ true
   half_later [] known = refl
   half_later (b ∷ pattern) known = known_by (b ∷ pattern) (verdict_on (b ∷ pattern) old) (verdict_on (b ∷ pattern) new) (stay.rows (b ∷ pattern)) known
 
-  search_later : (s : Search) → is_known old s ≡ true → is_known new s ≡ true
+  pub search_later : (s : Search) → is_known old s ≡ true → is_known new s ≡ true
   search_later s known =
       let parts = and_parts (half_is_known old s.prefix) (half_is_known old s.message) known in
       and_from _ _ (half_later s.prefix parts.0) (half_later s.message parts.1)
@@ -117,9 +117,3 @@ module _ (verdicts : VerdictsView) where
   pub fine_added : (filters : List Filter) (f : Filter) → AreFine verdicts filters → is_known verdicts (search_of f.pattern) ≡ true →
       AreFine verdicts (filters ++ f ∷ [])
   fine_added filters f fine known = All-push IsFine filters f fine known
-
-  pub fine_tail : (rest others : List Filter) (f : Filter) → rest ≡ f ∷ others → AreFine verdicts rest → AreFine verdicts others
-  fine_tail rest others f e fine = All-tail IsFine f others (subst (AreFine verdicts) e fine)
-
-  pub fine_head : (rest others : List Filter) (f : Filter) → rest ≡ f ∷ others → AreFine verdicts rest → is_known verdicts (search_of f.pattern) ≡ true
-  fine_head rest others f e fine = All-head IsFine f others (subst (AreFine verdicts) e fine)

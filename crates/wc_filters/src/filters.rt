@@ -1,4 +1,4 @@
-ghost use Rattle.std.specs.Prelude.{◌≡◌, ◌++◌, ◌∷◌, [], IfOk, OnOk, OnErr, IfErr, IsTrue, map};
+ghost use Rattle.std.specs.Prelude.{◌≡◌, ◌++◌, ◌∷◌, [], IfOk, OnOk, OnErr, IfErr, map};
 ghost use Rattle.std.specs.Option.{option_copied};
 ghost use Rattle.std.specs.Iterator.{YieldsFirstRef, item_count};
 ghost use Rattle.std.specs.Str.{IsUtf8};
@@ -10,7 +10,6 @@ ghost use Rattle.wc_filters.specs.Kept.{is_there, with_switch};
 ghost use Rattle.wc_filters.specs.Kept.{refusal_of, IsAnswer, AreFine};
 ghost use Rattle.wc_filters.specs.NamesLeft.{names_left};
 ghost use Rattle.wc_filters.specs.Parts.{tags_in};
-ghost use Rattle.wc_filters.specs.Patterns.{is_known, search_of};
 
 use crate::line_parts::{LineParts, Tags};
 use crate::refused::FilterRefused;
@@ -28,6 +27,8 @@ use wc_text::{NoMemory, Text};
 const MOST_FILTERS: usize = 256;
 
 /// Filters in the order of adding. Contracts see the list.
+///
+/// Each keeps what its patterns are built into, a megabyte at most for each of the two.
 #[derive(Drop)]
 pub struct Filters {
     alloc: Global,
@@ -54,7 +55,8 @@ impl Filters {
         }
     }
 
-    /// Adds a filter, which is enabled, after the others. Its patterns are judged.
+    /// Adds a filter, which is enabled, after the others. Its patterns are judged, and what they are
+    /// built into is kept with it.
     ///
     /// Refused, in this order: `NameTaken` where a filter has the name, `BadPattern` where the
     /// verdict on one of its patterns is that it is none, `TooMany` where there are 256 filters.
@@ -80,13 +82,13 @@ impl Filters {
             return Err(FilterRefused::NameTaken);
         }
         let search = Search::read(self.alloc, pattern.as_slice())?;
-        if !search.judge(verdicts)? {
+        let Some(halves) = search.build(verdicts)? else {
             return Err(FilterRefused::BadPattern);
-        }
+        };
         if self.rows.len() >= MOST_FILTERS {
             return Err(FilterRefused::TooMany);
         }
-        let row = Row::new(self.alloc, name, buffers, tags, pattern, search)?;
+        let row = Row::new(self.alloc, name, buffers, tags, pattern, search, halves)?;
         push(&mut self.rows, row)?;
         Ok(())
     }
@@ -127,7 +129,7 @@ impl Filters {
         found
     }
 
-    /// The same filters in memory of their own.
+    /// The same filters in memory of their own, but for what their patterns are built into.
     pub fn copy(&self) -> Result<Filters, NoMemory>
         ensures { IfOk result (λ filters. filters ≡ self.now) }
     {
@@ -169,13 +171,7 @@ impl Filters {
     }
 
     /// Whether some filter hides a line in the buffer of this full name.
-    pub fn hides_line(
-        &self,
-        verdicts: &Verdicts,
-        full_name: &[u8],
-        line: &PackedLine,
-    ) -> Result<bool, NoMemory>
-        requires fine { AreFine verdicts.now self.now }
+    pub fn hides_line(&self, full_name: &[u8], line: &PackedLine) -> Result<bool, NoMemory>
         requires text { HasUtf8Texts line.now }
         ensures { IfOk result (λ hidden. hidden ≡ hides self.now full_name.now line.now.tags
             line.now.prefix line.now.message) }
@@ -185,25 +181,17 @@ impl Filters {
             prefix: line.prefix(),
             message: line.message(),
         };
-        hides(
-            self.alloc,
-            verdicts,
-            self.rows.as_slice(),
-            full_name,
-            &parts,
-        )
+        hides(self.alloc, self.rows.as_slice(), full_name, &parts)
     }
 
     /// Whether some filter hides a line of these texts in the buffer of this full name.
     pub fn hides_texts(
         &self,
-        verdicts: &Verdicts,
         full_name: &[u8],
         tags: &[Text],
         prefix: &[u8],
         message: &[u8],
     ) -> Result<bool, NoMemory>
-        requires fine { AreFine verdicts.now self.now }
         requires prefix { IsUtf8 prefix.now }
         requires message { IsUtf8 message.now }
         ensures { IfOk result (λ hidden. hidden ≡ hides self.now full_name.now tags.now prefix.now
@@ -214,13 +202,7 @@ impl Filters {
             prefix,
             message,
         };
-        hides(
-            self.alloc,
-            verdicts,
-            self.rows.as_slice(),
-            full_name,
-            &parts,
-        )
+        hides(self.alloc, self.rows.as_slice(), full_name, &parts)
     }
 }
 
@@ -278,12 +260,10 @@ fn copies(alloc: Global, rows: &[Row]) -> Result<Vec<Row>, NoMemory>
 /// Whether a filter hides a line. The masks and the tags are looked at before a pattern is searched.
 fn is_hider(
     alloc: Global,
-    verdicts: &Verdicts,
     row: &Row,
     full_name: &[u8],
     line: &LineParts<'_>,
 ) -> Result<bool, NoMemory>
-    requires known { IsTrue (is_known verdicts.now (search_of row.now.pattern)) }
     requires prefix { IsUtf8 line.now.prefix.now }
     requires message { IsUtf8 line.now.message.now }
     ensures { IfOk result (λ hidden. hidden ≡ is_hider full_name.now (tags_in line.now.tags)
@@ -292,19 +272,17 @@ fn is_hider(
     if !row.concerns(full_name) || !row.takes(line.tags) {
         return Ok(false);
     }
-    let mut sieve = Sieve::new(alloc, verdicts, row)?;
+    let mut sieve = Sieve::new(alloc, row)?;
     Ok(sieve.asks(line.prefix, line.message))
 }
 
 /// Whether some filter hides a line.
 fn hides(
     alloc: Global,
-    verdicts: &Verdicts,
     rows: &[Row],
     full_name: &[u8],
     line: &LineParts<'_>,
 ) -> Result<bool, NoMemory>
-    requires fine { AreFine verdicts.now rows.now }
     requires prefix { IsUtf8 line.now.prefix.now }
     requires message { IsUtf8 line.now.message.now }
     ensures { IfOk result (λ hidden. hidden ≡ hides rows.now full_name.now
@@ -312,7 +290,7 @@ fn hides(
 {
     let mut rest = rows;
     while let [row, others @ ..] = rest {
-        if is_hider(alloc, verdicts, row, full_name, line)? {
+        if is_hider(alloc, row, full_name, line)? {
             return Ok(true);
         }
         rest = others;

@@ -3,6 +3,7 @@
 
 mod filter;
 mod filters;
+mod halves;
 mod line_parts;
 mod masks;
 mod refused;

@@ -1,11 +1,13 @@
 ghost use Rattle.std.specs.Prelude.{◌≡◌, IfOk};
 ghost use Rattle.std.specs.Option.{option_copied};
+ghost use Rattle.wc_filters.specs.Finders.{AreBuiltOf};
 ghost use Rattle.wc_filters.specs.Hides.{concerns, takes};
 ghost use Rattle.wc_filters.specs.Kept.{is_named, is_meant, with_switch, new_filter};
 ghost use Rattle.wc_filters.specs.Parts.{tags_in};
 ghost use Rattle.wc_filters.specs.Patterns.{search_of};
 
 use crate::filter::Filter;
+use crate::halves::Halves;
 use crate::line_parts::Tags;
 use crate::masks::{buffers_match, tags_match};
 use crate::search::Search;
@@ -14,11 +16,12 @@ use std::alloc::Global;
 use std::marker::Model;
 use wc_text::{NoMemory, Text};
 
-/// A filter with its pattern read. Contracts see the filter.
+/// A filter with its pattern read and built. Contracts see the filter.
 #[derive(Drop)]
 pub(crate) struct Row {
     own: Filter,
     search: Search,
+    halves: Halves,
 }
 
 impl Model for Row {
@@ -27,15 +30,17 @@ impl Model for Row {
     ghost Value = { Filter };
 
     ghost use Rattle.std.specs.Prelude.{◌≡◌};
+    ghost use Rattle.wc_filters.specs.Finders.{AreBuiltOf};
     ghost use Rattle.wc_filters.specs.Patterns.{search_of};
 
     ghost view = { λ r. r.own };
 
-    ghost invariant = { λ r. r.search ≡ search_of r.own.pattern };
+    ghost invariant = { λ r. (r.search ≡ search_of r.own.pattern)
+        × AreBuiltOf (search_of r.own.pattern) r.halves };
 }
 
 impl Row {
-    /// A filter that is enabled, of which the pattern asks this.
+    /// A filter that is enabled, of which the pattern asks this and is built into this.
     pub(crate) fn new(
         alloc: Global,
         name: &Text,
@@ -43,8 +48,10 @@ impl Row {
         tags: &Text,
         pattern: &Text,
         search: Search,
+        halves: Halves,
     ) -> Result<Row, NoMemory>
-        requires { search ≡ search_of pattern.now }
+        requires search { search ≡ search_of pattern.now }
+        requires halves { AreBuiltOf (search_of pattern.now) halves }
         ensures { IfOk result (λ row. row
             ≡ new_filter name.now buffers.now tags.now pattern.now) }
     {
@@ -55,7 +62,11 @@ impl Row {
             pattern: pattern.copy(alloc)?,
             enabled: true,
         };
-        Ok(Row { own, search })
+        Ok(Row {
+            own,
+            search,
+            halves,
+        })
     }
 
     pub(crate) fn name(&self) -> &Text
@@ -95,13 +106,18 @@ impl Row {
         }
     }
 
-    /// The same filter in memory of its own.
+    /// The same filter in memory of its own, but for what its pattern is built into.
     pub(crate) fn copy(&self, alloc: Global) -> Result<Row, NoMemory>
         ensures { IfOk result (λ row. row ≡ self.now) }
     {
         let own = self.own.copy(alloc)?;
         let search = self.search.copy(alloc)?;
-        Ok(Row { own, search })
+        let halves = self.halves.share()?;
+        Ok(Row {
+            own,
+            search,
+            halves,
+        })
     }
 
     /// What the pattern asks.
@@ -109,6 +125,13 @@ impl Row {
         ensures { result.now ≡ search_of self.now.pattern }
     {
         &self.search
+    }
+
+    /// What the pattern is built into.
+    pub(crate) fn halves(&self) -> &Halves
+        ensures { AreBuiltOf (search_of self.now.pattern) result.now }
+    {
+        &self.halves
     }
 
     /// Whether it may hide lines of the buffer of this full name.

@@ -1,9 +1,11 @@
-ghost use Rattle.std.specs.Prelude.{◌≡◌, IfOk, OnOk, IsTrue};
+ghost use Rattle.std.specs.Prelude.{◌≡◌, IfOk, IfSome, OnOk, IsTrue, is_some};
 ghost use Rattle.std.specs.Str.{IsUtf8};
 ghost use Rattle.wc_eval.specs.Verdicts.{Oracle, Agrees, Stay};
+ghost use Rattle.wc_filters.specs.Finders.{AreBuiltOf};
 ghost use Rattle.wc_filters.specs.Patterns.{is_tab, from_tab, halves_of, parted, search_by, search_of};
 ghost use Rattle.wc_filters.specs.Patterns.{half_is_fine, half_is_known, is_fine_by, is_known};
 
+use crate::halves::Halves;
 use std::alloc::Global;
 use wc_eval::Verdicts;
 use wc_text::{NoMemory, Text};
@@ -53,7 +55,7 @@ impl Search {
     }
 
     /// Whether the verdicts on both patterns are that they are some.
-    pub(crate) fn judge(&self, verdicts: &mut Verdicts) -> Result<bool, NoMemory>
+    fn judge(&self, verdicts: &mut Verdicts) -> Result<bool, NoMemory>
         requires prefix { IsUtf8 self.now.prefix }
         requires message { IsUtf8 self.now.message }
         ensures fine { IfOk result (λ fine. (oracle : Oracle) → Agrees oracle verdicts.new →
@@ -65,6 +67,23 @@ impl Search {
             return Ok(false);
         }
         judge_half(verdicts, &self.message)
+    }
+
+    /// What both patterns are built into. None where the verdict on one is that it is none.
+    pub(crate) fn build(&self, verdicts: &mut Verdicts) -> Result<Option<Halves>, NoMemory>
+        requires prefix { IsUtf8 self.now.prefix }
+        requires message { IsUtf8 self.now.message }
+        ensures built { IfOk result (λ halves. IfSome halves (AreBuiltOf self.now)) }
+        ensures fine { IfOk result (λ halves. (oracle : Oracle) → Agrees oracle verdicts.new →
+            is_some halves ≡ is_fine_by oracle self.now) }
+        ensures known { IfOk result (λ halves. is_some halves ≡ is_known verdicts.new self.now) }
+        ensures stay { Stay verdicts.old verdicts.new }
+    {
+        if !self.judge(verdicts)? {
+            return Ok(None);
+        }
+        let halves = Halves::of(verdicts, self)?;
+        Ok(Some(halves))
     }
 }
 

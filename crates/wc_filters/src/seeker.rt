@@ -1,11 +1,9 @@
-ghost use Rattle.std.specs.Prelude.{◌≡◌, ◌++◌, ◌∷◌, [], IfOk, OnOk, IsTrue};
+ghost use Rattle.std.specs.Prelude.{◌≡◌, ◌++◌, ◌∷◌, [], IfOk, OnOk};
 ghost use Rattle.std.specs.Str.{IsUtf8};
 ghost use Rattle.wc_lines.specs.LineText.{HasUtf8Texts};
 ghost use Rattle.wc_filters.specs.Finders.{concerning};
 ghost use Rattle.wc_filters.specs.Hides.{hides, sifted};
-ghost use Rattle.wc_filters.specs.Kept.{AreFine};
 ghost use Rattle.wc_filters.specs.Parts.{tags_in};
-ghost use Rattle.wc_filters.specs.Patterns.{is_known, search_of};
 
 use crate::filters::Filters;
 use crate::line_parts::{LineParts, Tags};
@@ -13,7 +11,6 @@ use crate::row::Row;
 use crate::sieve::Sieve;
 use std::alloc::Global;
 use std::marker::Model;
-use wc_eval::Verdicts;
 use wc_lines::PackedLine;
 use wc_text::{NoMemory, Text};
 
@@ -43,16 +40,11 @@ impl<'a> Model for Seeker<'a> {
 impl Filters {
     /// What finds which lines of the buffer of this full name are hidden. Memory is taken here
     /// alone.
-    pub fn seeker<'a>(
-        &'a self,
-        verdicts: &'a Verdicts,
-        full_name: &'a [u8],
-    ) -> Result<Seeker<'a>, NoMemory>
-        requires { AreFine verdicts.now self.now }
+    pub fn seeker<'a>(&'a self, full_name: &'a [u8]) -> Result<Seeker<'a>, NoMemory>
         ensures filters { IfOk result (λ seeker. seeker.filters ≡ self.now) }
         ensures name { IfOk result (λ seeker. seeker.name ≡ full_name.now) }
     {
-        let sieves = sieves(self.alloc(), verdicts, self.rows(), full_name)?;
+        let sieves = sieves(self.alloc(), self.rows(), full_name)?;
         Ok(Seeker {
             filters: self,
             full_name,
@@ -95,19 +87,13 @@ impl<'a> Seeker<'a> {
 }
 
 /// The filters that concern a buffer, ready.
-fn sieves<'a>(
-    alloc: Global,
-    verdicts: &'a Verdicts,
-    rows: &'a [Row],
-    full_name: &[u8],
-) -> Result<Vec<Sieve<'a>>, NoMemory>
-    requires { AreFine verdicts.now rows.now }
+fn sieves<'a>(alloc: Global, rows: &'a [Row], full_name: &[u8]) -> Result<Vec<Sieve<'a>>, NoMemory>
     ensures { IfOk result (λ sieves. sieves.items ≡ concerning full_name.now rows.now) }
 {
     let mut sieves = Vec::new(alloc);
     let mut rest = rows;
     while let [row, others @ ..] = rest {
-        put(alloc, &mut sieves, verdicts, row, full_name)?;
+        put(alloc, &mut sieves, row, full_name)?;
         rest = others;
     }
     Ok(sieves)
@@ -117,18 +103,16 @@ fn sieves<'a>(
 fn put<'a>(
     alloc: Global,
     sieves: &mut Vec<Sieve<'a>>,
-    verdicts: &'a Verdicts,
     row: &'a Row,
     full_name: &[u8],
 ) -> Result<(), NoMemory>
-    requires { IsTrue (is_known verdicts.now (search_of row.now.pattern)) }
     ensures { OnOk result (sieves.new.items
         ≡ sieves.old.items ++ concerning full_name.now (row.now ∷ [])) }
 {
     if !row.concerns(full_name) {
         return Ok(());
     }
-    let sieve = Sieve::new(alloc, verdicts, row)?;
+    let sieve = Sieve::new(alloc, row)?;
     match sieves.push(sieve) {
         Ok(()) => Ok(()),
         Err(_) => Err(NoMemory),

@@ -1,17 +1,17 @@
-ghost use Rattle.std.specs.Prelude.{◌≡◌, IfOk, IsTrue};
+ghost use Rattle.std.specs.Prelude.{◌≡◌, IfOk};
 ghost use Rattle.std.specs.Option.{option_copied};
 ghost use Rattle.std.specs.Str.{IsUtf8};
 ghost use Rattle.wc_filters.specs.Finders.{IsFinderOf};
 ghost use Rattle.wc_filters.specs.Hides.{asks, sifts};
 ghost use Rattle.wc_filters.specs.Parts.{tags_in};
-ghost use Rattle.wc_filters.specs.Patterns.{half_holds, half_is_known, is_known, search_of};
+ghost use Rattle.wc_filters.specs.Patterns.{half_holds};
 
 use crate::line_parts::LineParts;
 use crate::row::Row;
 use std::alloc::Global;
 use std::marker::Model;
-use wc_eval::{Finder, Verdicts};
-use wc_text::{NoMemory, Text};
+use wc_eval::{Finder, Pattern};
+use wc_text::NoMemory;
 
 /// A filter with what searches for its patterns. Contracts see the filter.
 #[derive(Drop)]
@@ -37,17 +37,12 @@ impl<'a> Model for Sieve<'a> {
 
 impl<'a> Sieve<'a> {
     /// The filter. Memory is taken here alone.
-    pub(crate) fn new(
-        alloc: Global,
-        verdicts: &'a Verdicts,
-        row: &'a Row,
-    ) -> Result<Sieve<'a>, NoMemory>
-        requires { IsTrue (is_known verdicts.now (search_of row.now.pattern)) }
+    pub(crate) fn new(alloc: Global, row: &'a Row) -> Result<Sieve<'a>, NoMemory>
         ensures { IfOk result (λ sieve. sieve ≡ row.now) }
     {
-        let search = row.search();
-        let prefix = finder_of(alloc, verdicts, &search.prefix)?;
-        let message = finder_of(alloc, verdicts, &search.message)?;
+        let halves = row.halves();
+        let prefix = finder_of(alloc, halves.prefix.as_ref())?;
+        let message = finder_of(alloc, halves.message.as_ref())?;
         Ok(Sieve {
             row,
             prefix,
@@ -82,23 +77,17 @@ impl<'a> Sieve<'a> {
     }
 }
 
-/// What searches for a pattern. None where it is empty.
+/// What searches for a pattern, if there is one.
 fn finder_of<'a>(
     alloc: Global,
-    verdicts: &'a Verdicts,
-    pattern: &Text,
+    pattern: Option<&'a Pattern>,
 ) -> Result<Option<Finder<'a>>, NoMemory>
-    requires { IsTrue (half_is_known verdicts.now pattern.now) }
-    ensures { IfOk result (IsFinderOf pattern.now) }
+    ensures { IfOk result (λ finder. finder ≡ option_copied pattern.entry) }
 {
-    if pattern.as_slice().is_empty() {
-        return Ok(None);
+    match pattern {
+        Some(pattern) => Ok(Some(Finder::new(alloc, pattern.regex())?)),
+        None => Ok(None),
     }
-    let Some(regex) = verdicts.pattern(pattern) else {
-        unreachable!()
-    };
-    let finder = Finder::new(alloc, regex)?;
-    Ok(Some(finder))
 }
 
 /// Whether a text has a match of the pattern, which may be empty.

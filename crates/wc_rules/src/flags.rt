@@ -19,7 +19,7 @@ impl Rules {
         ensures { IfOk result (λ shown. shown
             ≡ line_is_displayed self.now.filters full_name.now line.now) }
     {
-        let hidden = self.filters.hides_line(&self.verdicts, full_name, line)?;
+        let hidden = self.filters.hides_line(full_name, line)?;
         Ok(!hidden)
     }
 
@@ -37,9 +37,7 @@ impl Rules {
         ensures { IfOk result (λ shown. shown ≡ is_displayed self.now.filters full_name.now
             tags.now prefix.now message.now) }
     {
-        let hidden = self
-            .filters
-            .hides_texts(&self.verdicts, full_name, tags, prefix, message)?;
+        let hidden = self.filters.hides_texts(full_name, tags, prefix, message)?;
         Ok(!hidden)
     }
 
@@ -57,7 +55,7 @@ impl Rules {
         ensures { OnOk result (flips.new ≡ flips.old
             ++ flips_of filters.now full_name.now lines.now.lines) }
     {
-        let mut seeker = filters.seeker(&self.verdicts, full_name)?;
+        let mut seeker = filters.seeker(full_name)?;
         push_flips(&mut seeker, lines, flips)
     }
 }

@@ -1,5 +1,4 @@
 ghost use Rattle.std.specs.Str.{IsUtf8};
-ghost use Rattle.wc_filters.specs.Kept.{AreFine};
 
 use crate::masks::{put_buffers, put_tags};
 use crate::texts::{tags_of, text_of};
@@ -14,7 +13,6 @@ use wc_text::Text;
 pub struct Player {
     verdicts: Verdicts,
     filters: Filters,
-    ghost fine: { AreFine verdicts filters },
 }
 
 impl Player {
@@ -74,11 +72,9 @@ impl Player {
         requires message { IsUtf8 message.now }
     {
         let (name, prefix, message) = (buffer.as_slice(), prefix.as_slice(), message.as_slice());
-        let hidden = self
-            .filters
-            .hides_texts(&self.verdicts, name, tags, prefix, message)?;
+        let hidden = self.filters.hides_texts(name, tags, prefix, message)?;
         put_either(out, hidden, "hidden", "shown")?;
-        let mut seeker = self.filters.seeker(&self.verdicts, name)?;
+        let mut seeker = self.filters.seeker(name)?;
         if seeker.hides_texts(tags, prefix, message) != hidden {
             out.push_str(", and the other by a seeker")?;
         }
