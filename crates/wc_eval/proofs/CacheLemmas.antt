@@ -1,12 +1,12 @@
 -- Patterns that are kept built, each under its own text.
-use Rattle.std.proofs.Common.{◌≡◌, ℕ, zero, suc, Bool, true, false, List, [], ◌∷◌, take, Option, Some, None, refl, sym, subst, ◌∙◌, ◌-◌, bytes_eq}
+use Rattle.std.proofs.Common.{◌≡◌, ℕ, zero, suc, Bool, true, false, List, [], ◌∷◌, take, Option, Some, None, Result, Ok, Err, OnOk, OnErr, refl, sym, subst, ◌∙◌, ◌-◌, bytes_eq}
 use Rattle.std.proofs.lemmas.Option.{none-some, same_Some}
 use Rattle.std.specs.Map.{lookup, lookup_entry, remove_entry}
 use Rattle.std.specs.Option.{option_map_or}
 use Rattle.std.specs.Cmp.Lexicographic.{bytes_decides}
 use Rattle.std.specs.declared.alloc.Global.{Global}
 use Rattle.std.specs.declared.vec.Vec.{Vec}
-use Rattle.lru.specs.LruCache.{LruCache, promoted, put_entries}
+use Rattle.lru.specs.LruCache.{LruCache, lru_cache, promoted, put_entries}
 use Rattle.wc_eval.specs.Judged.{Built, AreOwn}
 
 abbrev Entry : Type 0
@@ -69,3 +69,17 @@ module _ (c : LruCache (Vec ℕ Global) (List ℕ)) (key : Vec ℕ Global) (patt
   -- as one is put
   pub own_put : AreOwn (put_entries key_eq c key pattern)
   own_put = put_by (lookup_entry (key_eq key) c.entries) refl
+
+-- what holds of the patterns that are kept
+abbrev pub IsKept : LruCache (Vec ℕ Global) (List ℕ) → Type 0
+IsKept c = AreOwn c.entries × (c.cap ≡ 256)
+
+pub kept_promoted : (test : Vec ℕ Global → Bool) (c : LruCache (Vec ℕ Global) (List ℕ)) → IsKept c →
+    IsKept (lru_cache (promoted test c.entries) c.cap)
+kept_promoted test c kept = (own_promoted test c.entries kept.0, kept.1)
+
+-- as one is put, if memory was found
+pub kept_put : {A E : Type 0} (r : Result A E) (c new : LruCache (Vec ℕ Global) (List ℕ)) (key : Vec ℕ Global) (pattern : List ℕ) →
+    OnOk r (new ≡ lru_cache (put_entries key_eq c key pattern) c.cap) → OnErr r (new ≡ c) → pattern ≡ key.items → IsKept c → IsKept new
+kept_put (Ok x) c new key pattern put same is kept = subst IsKept (sym put) (own_put c key pattern is kept.0, kept.1)
+kept_put (Err e) c new key pattern put same is kept = subst IsKept (sym same) kept

@@ -50,9 +50,12 @@ found_right text (e ∷ es) v right found = by_bool (bytes_eq text e.0.items) _
 pub built_is_pattern : (text : List ℕ) (r : Regex) → IsBuiltOf text r → IsPattern folding_config text
 built_is_pattern text r built =
     let hir = r.pattern.program.hir in
-    let names = names_of r.pattern.names.items in
-    (hir, names, subst (λ k. Reads k text hir names) built.config
-    (subst (λ t. Reads (regex_config r) t hir names) built.source built.read))
+    let names = names_of r.pattern.names.items in (
+      hir,
+      names,
+      subst (λ k. Reads k text hir names) built.config
+          (subst (λ t. Reads (regex_config r) t hir names) built.source built.read),
+    )
 
 -- the verdict of a judgement
 pub judged_right : (text : List ℕ) (j : Judgement) → IsUtf8 text → IsJudgementOf text j → IsRight text (verdict_of j)

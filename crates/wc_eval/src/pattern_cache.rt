@@ -54,10 +54,10 @@ impl PatternCache {
     pub(crate) fn find(&mut self, text: &[u8]) -> Result<Option<Pattern>, NoMemory>
         ensures { IfOk result (λ found. IfSome found (λ pattern. pattern ≡ text.now)) }
     {
-        match self.patterns.get(text) {
-            Some(pattern) => Ok(Some(pattern.share()?)),
-            None => Ok(None),
-        }
+        let Some(pattern) = self.patterns.get(text) else {
+            return Ok(None);
+        };
+        Ok(Some(pattern.share()?))
     }
 
     /// Keeps what a text was built into, in place of the pattern that was not used for longest, where

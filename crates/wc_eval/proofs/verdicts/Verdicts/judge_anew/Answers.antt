@@ -1,10 +1,10 @@
 use Rattle.std.proofs.Common.{rules, ◌≡◌, ◌<◌, ◌^◌, ◌++◌, ◌∷◌, [], None, ap, sym, subst, ◌∙◌, length}
 use Rattle.wc_eval.specs.Verdicts.{verdict_on, verdict_in, AreOnce, IsCaused}
-use Rattle.wc_eval.specs.Judged.{rows_of, IsRight}
+use Rattle.wc_eval.specs.Judged.{rows_of, verdict_of, IsRight}
 use Rattle.wc_eval.proofs.VerdictLemmas.{right_push, judged_right, once_push, others_kept, rows_push, judges_new, only_push}
 use Rattle.wc_eval.proofs.verdicts.Verdicts.judge_anew.Goals as goal
 
-module _ (c : goal.After-put-count) where
+module _ (c : goal.After-keep) where
   same : c.in_ok-key.key.items ≡ c.args.pattern.now
   same = search rules
 
@@ -20,7 +20,7 @@ module _ (c : goal.After-put-count) where
 
   right : IsRight c.in_ok-key.key.items c.verdict-verdict.result
   right = subst (λ v. IsRight c.in_ok-key.key.items v) (sym c.verdict-verdict.ensures)
-      (subst (λ t. IsRight t _) (sym same) (judged_right c.args.pattern.now c.in_ok-judgement.judgement c.requires.utf8 c.in_ok-judgement.ensures.built))
+      (subst (λ t. IsRight t (verdict_of c.in_ok-judgement.judgement)) (sym same) (judged_right c.args.pattern.now c.in_ok-judgement.judgement c.requires.utf8 c.in_ok-judgement.ensures.built))
 
 pub invariant_of-self-2 : goal.invariant_of-self-2
 invariant_of-self-2 c =
