@@ -11,7 +11,7 @@ use std::alloc::Global;
 use wc_text::Text;
 
 /// How many bytes the tables of a built pattern may take, about.
-const MOST_BYTES: usize = 1 << 20;
+const MOST_BYTES: usize = 1 << 19;
 
 /// Why a text was not built into a regular expression.
 #[derive(Clone, Copy, PartialEq, Eq, Debug)]
@@ -47,11 +47,11 @@ impl Compiler {
     }
 
     /// The regular expression that the pattern is, with case ignored. One that is built takes about
-    /// a megabyte at most.
+    /// half a megabyte at most.
     pub fn compile(&mut self, alloc: Global, pattern: &Text) -> Result<Regex, CompileRefused>
         requires { IsUtf8 pattern.now }
         ensures built { IfOk result (IsBuiltOf pattern.now) }
-        ensures small { IfOk result (λ regex. regex_size regex ≤ 2 ^ 20 + 24) }
+        ensures small { IfOk result (λ regex. regex_size regex ≤ 2 ^ 19 + 24) }
         ensures later { self.old.others ≤ self.new.others }
         ensures fine { OnOk result (self.new.others ≡ self.old.others) }
         ensures syntax { IfErr result (λ refused. refused ≡ CompileRefused.Syntax →

@@ -8,7 +8,7 @@ use std::marker::Model;
 use std::rc::Rc;
 use wc_text::NoMemory;
 
-/// A pattern that was built, which takes about a megabyte at most. Contracts see its text.
+/// A pattern that was built, which takes about half a megabyte at most. Contracts see its text.
 #[derive(Drop)]
 pub struct Pattern {
     regex: Rc<Regex>,

@@ -23,7 +23,7 @@ use wc_text::{NoMemory, Text};
 /// last, built. A verdict that was given stays.
 ///
 /// A verdict costs its text and about a hundred bytes, as long as the program runs. What is built of
-/// a pattern takes about a megabyte at most, and is given back as 256 others are used after it.
+/// a pattern takes about half a megabyte at most, and is given back as 256 others are used after it.
 #[derive(Drop)]
 pub struct Verdicts {
     alloc: Global,

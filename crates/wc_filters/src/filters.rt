@@ -28,7 +28,7 @@ const MOST_FILTERS: usize = 256;
 
 /// Filters in the order of adding. Contracts see the list.
 ///
-/// Each keeps what its patterns are built into, a megabyte at most for each of the two.
+/// Each keeps what its patterns are built into, half a megabyte at most for each of the two.
 #[derive(Drop)]
 pub struct Filters {
     alloc: Global,
