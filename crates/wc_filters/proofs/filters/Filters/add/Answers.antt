@@ -1,4 +1,4 @@
-use Rattle.std.proofs.Common.{◌≡◌, ◌∙◌, true, ap, sym, subst, IsUtf8}
+use Rattle.std.proofs.Common.{rules, ◌≡◌, ◌∙◌, true, ap, sym, subst, IsUtf8}
 use Rattle.wc_filters.specs.Kept.{AreFine}
 use Rattle.wc_filters.specs.Patterns.{is_known, search_of}
 use Rattle.wc_filters.specs.declared.filter.Filter.{Filter}
@@ -29,7 +29,8 @@ returns-clause-fine c fine =
     let later = fine_later c.args.verdicts.now c.build.new.verdicts c.build.ensures.stay c.self.inside.rows.items was in
     let read : c.in_ok-search.search ≡ search_of c.args.pattern.now = c.in_ok-search.ensures ∙ ap search_of c.as_slice-2.ensures in
     let own : search_of c.in_ok-row.row.pattern ≡ c.in_ok-search.search = ap (λ (f : Filter). search_of f.pattern) c.in_ok-row.ensures ∙ sym read in
+    let judged : is_known c.build.new.verdicts c.in_ok-search.search ≡ true = search rules in
     let known : is_known c.build.new.verdicts (search_of c.in_ok-row.row.pattern) ≡ true =
-    ap (λ s. is_known c.build.new.verdicts s) own ∙ sym c.in_ok-judge.ensures.known ∙ c.if-not-branch.false in
+    ap (λ s. is_known c.build.new.verdicts s) own ∙ judged in
     subst (λ l. AreFine c.build.new.verdicts l) (sym c.in_ok-push.ensures.ok)
     (fine_added c.build.new.verdicts c.self.inside.rows.items c.in_ok-row.row later known)
