@@ -4,6 +4,7 @@ pub mod EventsFormed
 pub mod FlipLemmas
 pub mod Formed
 pub mod HdaMessages
+pub mod LinesTold
 pub mod NickBytes
 pub mod NickLemmas
 pub mod NicksFormed

@@ -4,6 +4,7 @@ pub mod FlipOrders
 pub mod HdaBytes
 pub mod LentValues
 pub mod LineObjects
+pub mod LinesTold
 pub mod NickBytes
 pub mod NickForms
 pub mod NickObjects
