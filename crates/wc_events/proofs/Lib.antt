@@ -1,5 +1,5 @@
 pub mod DumpLemmas
-pub mod AddedItem
+pub mod EventBytes
 pub mod EventsFormed
 pub mod FlipLemmas
 pub mod Formed

@@ -1,5 +1,6 @@
 pub mod BufferObjects
 pub mod Dumps
+pub mod EventBytes
 pub mod FlipOrders
 pub mod HdaBytes
 pub mod LentValues

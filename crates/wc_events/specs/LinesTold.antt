@@ -1,34 +1,17 @@
--- Lines that are told in one message, as bytes, and an event as it is put after others.
-use Rattle.std.specs.Prelude.{◌≡◌, ℕ, ◌+◌, ◌-◌, ◌^◌, ◌<◌, ◌≤◌, true, List, [], ◌∷◌, ◌++◌, length}
-use Rattle.std.specs.Prelude.{filter, Option, Some, None, MatchOption, IfSome}
+-- Lines that are told in one message, as bytes.
+use Rattle.std.specs.Prelude.{◌≡◌, ℕ, ◌+◌, ◌-◌, ◌^◌, ◌<◌, ◌≤◌, List, [], ◌∷◌, ◌++◌, length}
+use Rattle.std.specs.Prelude.{filter, Option, MatchOption}
 use Rattle.std.specs.List.{flat_map}
 use Rattle.wc_text.specs.declared.names.Handle.{Handle}
 use Rattle.wc_lines.specs.declared.line.Line.{Line}
 use Rattle.wc_model.specs.Parts.{is_flipped}
 use Rattle.wc_keys.specs.declared.key.Key.{Key}
-use Rattle.wc_objects.specs.declared.object.Object.{Object}
-use Rattle.wc_objects.specs.Forms.{well_formed}
-use Rattle.wc_objects.specs.Spelling.{message_bytes, pointer_bytes, be32}
+use Rattle.wc_objects.specs.Spelling.{pointer_bytes, be32}
 use Rattle.wc_events.specs.declared.line_items.ToldLines.{ToldLines}
 use Rattle.wc_events.specs.declared.line_items.ToldLines.TheVariants as told
 use Rattle.wc_events.specs.declared.line_writer.Size.{Size}
 use Rattle.wc_events.specs.declared.nick_bytes.Left.{Left}
 use Rattle.wc_events.specs.ValueBytes.{line_bytes}
-
--- ---- an event
-
--- the message of an event, and nothing where nothing is told
-abbrev pub event_bytes : List ℕ → Option (List Object) → List ℕ
-event_bytes id None = []
-event_bytes id (Some objects) = message_bytes id objects
-
--- the event was put after the bytes that were there
-pub record IsPut (old new id : List ℕ) (objects : Option (List Object)) : Type 0 where
-  pub bytes : new ≡ old ++ event_bytes id objects
-  pub formed : IfSome objects (λ told. well_formed told ≡ true)
-  pub fits : length (event_bytes id objects) ≤ 2 ^ 31 - 1
-
--- ---- lines
 
 abbrev pub lines_of : ToldLines → List Line
 lines_of (told.New line) = line.now ∷ []

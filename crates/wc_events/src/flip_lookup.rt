@@ -95,7 +95,8 @@ pub fn has_flips(world: &World, flips: &FlipLookup<'_>, buffer: Handle) -> bool
     }
 }
 
-fn has_flipped(lines: &Lines, flips: &FlipLookup<'_>) -> bool
+/// The same of lines.
+pub(crate) fn has_flipped(lines: &Lines, flips: &FlipLookup<'_>) -> bool
     ensures { result ≡ list_any (is_flipped flips.now) lines.now.lines }
 {
     for line in lines.iter() {

@@ -23,10 +23,9 @@ mod trims;
 mod value_bytes;
 mod values;
 
-pub use events::event_objects;
-pub use flags::flagged_objects;
+pub use events::write_event;
+pub use flags::write_flags;
 pub use flip_lookup::{FlipLookup, has_flips};
-pub use line_objects::line_added;
 pub use nick_writer::write_nicks;
 pub use nicks::{Nicks, push_kind};
 pub use trims::trim_objects;

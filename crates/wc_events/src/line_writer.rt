@@ -1,16 +1,23 @@
 //! Events of lines written without making their objects: the length of the message is found first.
 
-ghost use Rattle.std.specs.Prelude.{◌≡◌, ◌+◌, ◌-◌, ◌^◌, ◌<◌, ◌≤◌, ◌++◌, length};
-ghost use Rattle.std.specs.Prelude.{MatchOption, OnOk, OnErr, IsErrOf};
+ghost use Rattle.std.specs.Prelude.{◌≡◌, ◌+◌, ◌-◌, ◌^◌, ◌<◌, ◌≤◌, ◌++◌, ◌∷◌, [], length};
+ghost use Rattle.std.specs.Prelude.{MatchOption, OnOk, OnErr, IsErrOf, Some};
+ghost use Rattle.wc_keys.specs.Events.{id_of};
+ghost use Rattle.wc_lines.specs.LineText.{HasUtf8Texts};
+ghost use Rattle.wc_model.specs.declared.notice.EventKind.TheVariants as kinds;
 ghost use Rattle.wc_objects.specs.Spelling.{be32, HasRoomFor, Puts};
+ghost use Rattle.wc_events.specs.EventBytes.{IsPut, IsTooLong};
 ghost use Rattle.wc_events.specs.HdaBytes.{front_part};
+ghost use Rattle.wc_events.specs.LineObjects.{added_objects};
 ghost use Rattle.wc_events.specs.LinesTold.{IsSize, lines_body, lines_message, lines_of};
 
 use crate::front::{Front, put_front, room_after_front};
 use crate::line_items::{ToldLines, put_lines, room_after_lines};
 use crate::nick_bytes::Left;
 use bytes::BytesMut;
-use wc_keys::Key;
+use wc_keys::{Key, KeyList, LINE_PATH, event_id};
+use wc_lines::PackedLine;
+use wc_model::EventKind;
 use wc_objects::WriteRefused;
 use wc_objects::parts::{MAX_MESSAGE, put_count};
 use wc_text::Handle;
@@ -23,12 +30,7 @@ struct Size {
 }
 
 /// How long the message is, where a message may be that long.
-fn size_of(
-    front: Front<'_>,
-    buffer: Handle,
-    told: ToldLines<'_>,
-    keys: &[Key],
-) -> Option<Size>
+fn size_of(front: Front<'_>, buffer: Handle, told: ToldLines<'_>, keys: &[Key]) -> Option<Size>
     ensures { MatchOption result
         (2 ^ 31 - 1 < length
         (lines_message (front_part front.entry) buffer keys.now (lines_of told.entry)))
@@ -112,4 +114,31 @@ pub(crate) fn append_lines(
     };
     put_message(out, size, front, buffer, told, keys);
     Ok(())
+}
+
+/// Puts the event `_buffer_line_added` of WeeChat's relay protocol, for a new line of a buffer.
+pub(crate) fn write_line_added(
+    out: &mut BytesMut,
+    buffer: Handle,
+    line: &PackedLine,
+) -> Result<(), WriteRefused>
+    requires { HasUtf8Texts line.now }
+    ensures ok { OnOk result (IsPut out.old.items out.new.items (id_of kinds.LineAdded)
+        (Some (added_objects buffer line.now))) }
+    ensures too_long { IsErrOf result WriteRefused.TooLong →
+        IsTooLong (id_of kinds.LineAdded) (Some (added_objects buffer line.now)) }
+    ensures err { OnErr result (out.new.items ≡ out.old.items) }
+{
+    let front = Front {
+        id: event_id(EventKind::LineAdded),
+        path: LINE_PATH,
+        keys: KeyList::LineData.text(),
+    };
+    append_lines(
+        out,
+        front,
+        buffer,
+        ToldLines::New(line),
+        KeyList::LineData.keys(),
+    )
 }
