@@ -1,6 +1,6 @@
 -- Events as they are put after other bytes.
-use Rattle.std.proofs.Common.{◌≡◌, ℕ, ◌+◌, ◌-◌, ◌^◌, ◌<◌, ◌≤◌, true, List, [], ◌∷◌, ◌++◌, length, map, filter, Option, None, Some, option_map, refl, sym, ap, subst, ◌∙◌, append-nil, append_assoc}
-use Rattle.std.specs.Prelude.{Result, Ok, Err, OnOk, IsErrOf, IfSome}
+use Rattle.std.proofs.Common.{◌≡◌, ℕ, ◌+◌, ◌-◌, ◌^◌, ◌<◌, ◌≤◌, true, List, [], ◌∷◌, ◌++◌, length, map, filter, Option, None, Some, refl, sym, ap, subst, ◌∙◌, append_assoc}
+use Rattle.std.specs.Prelude.{Result, Ok, Err, OnOk}
 use Rattle.std.specs.List.{flat_map, filter_map, cons_option}
 use Rattle.std.proofs.lemmas.List.{length-map}
 use Rattle.wc_text.specs.declared.names.Handle.{Handle}
@@ -20,7 +20,7 @@ use Rattle.wc_objects.specs.declared.write.WriteRefused.{WriteRefused}
 use Rattle.wc_objects.specs.Forms.{well_formed}
 use Rattle.wc_objects.specs.Spelling.{message_bytes, item_bytes, value_bytes, pointer_bytes, be32}
 use Rattle.wc_events.specs.BufferObjects.{flag_objects}
-use Rattle.wc_events.specs.EventBytes.{event_bytes, IsPut, IsTooLong}
+use Rattle.wc_events.specs.EventBytes.{IsPut}
 use Rattle.wc_events.specs.HdaBytes.{front_bytes, items_bytes, hda_body, hda_message}
 use Rattle.wc_events.specs.LineObjects.{line_value, line_values, added_item, added_objects}
 use Rattle.wc_events.specs.LinesTold.{line_spelled, lines_spelled, lines_body, lines_message}

@@ -55,10 +55,11 @@ fn room_after_item(left: Left, buffer: Handle, line: &PackedLine, keys: &[Key]) 
     Some(Left { room, items })
 }
 
-/// What is left after a line, which takes room where its flag differs.
+/// What is left after a line, which takes room where its flag differs. The place is that of `has_at`.
 #[inline(always)]
 fn room_after_flip(
     left: Left,
+    place: &mut usize,
     buffer: Handle,
     flips: &FlipLookup<'_>,
     line: &PackedLine,
@@ -69,7 +70,7 @@ fn room_after_flip(
         (lines_spelled buffer keys.now (filter (is_flipped flips.now) (line.now ∷ [])))
         (length (filter (is_flipped flips.now) (line.now ∷ []))) }
 {
-    if !flips.has(line) {
+    if !flips.has_at(place, line) {
         return Some(left);
     }
     room_after_item(left, buffer, line, keys)
@@ -89,8 +90,9 @@ fn room_after_flipped(
         (length (filter (is_flipped flips.now) lines.now.lines)) }
 {
     let mut left = whole;
+    let mut place = 0;
     for line in lines.iter() {
-        left = room_after_flip(left, buffer, flips, line, keys)?;
+        left = room_after_flip(left, &mut place, buffer, flips, line, keys)?;
     }
     Some(left)
 }
@@ -128,6 +130,7 @@ fn put_item(out: &mut BytesMut, buffer: Handle, line: &PackedLine, keys: &[Key])
 #[inline(always)]
 fn put_flip(
     out: &mut BytesMut,
+    place: &mut usize,
     buffer: Handle,
     flips: &FlipLookup<'_>,
     line: &PackedLine,
@@ -138,7 +141,7 @@ fn put_flip(
     ensures { Puts out.old out.new
         (lines_spelled buffer keys.now (filter (is_flipped flips.now) (line.now ∷ []))) }
 {
-    if flips.has(line) {
+    if flips.has_at(place, line) {
         put_item(out, buffer, line, keys);
     }
 }
@@ -155,8 +158,9 @@ fn put_flipped(
     ensures { Puts out.old out.new
         (lines_spelled buffer keys.now (filter (is_flipped flips.now) lines.now.lines)) }
 {
+    let mut place = 0;
     for line in lines.iter() {
-        put_flip(out, buffer, flips, line, keys);
+        put_flip(out, &mut place, buffer, flips, line, keys);
     }
 }
 

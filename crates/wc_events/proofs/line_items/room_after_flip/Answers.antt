@@ -3,8 +3,8 @@ use Rattle.wc_model.specs.Parts.{is_flipped}
 use Rattle.wc_events.proofs.LinesTold.{flip_rest, flip_leaves}
 use Rattle.wc_events.proofs.line_items.room_after_flip.Goals as goal
 
-pub returns-then-not-has : goal.returns-then-not-has
-returns-then-not-has c =
+pub returns-then-not-has_at : goal.returns-then-not-has_at
+returns-then-not-has_at c =
     let off : is_flipped c.args.flips.now c.args.line.now ≡ false = search rules in
     flip_rest c.args.left c.args.buffer c.args.keys.now c.args.flips.now c.args.line.now off
 
