@@ -1,4 +1,4 @@
-use Rattle.std.proofs.Common.{rules, ◌≡◌, ◌<◌, ◌+◌, ◌∷◌, [], filter, length, ap, arith}
+use Rattle.std.proofs.Common.{rules, ◌≡◌, ◌<◌, ◌∷◌, [], filter, length, ap, arith}
 use Rattle.wc_lines.specs.LinesLeft.{lines_left}
 use Rattle.wc_model.specs.Parts.{is_flipped}
 use Rattle.wc_events.specs.LinesTold.{lines_spelled}

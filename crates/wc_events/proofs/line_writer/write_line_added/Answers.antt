@@ -1,4 +1,4 @@
-use Rattle.std.proofs.Common.{◌≡◌, ℕ, ◌-◌, ◌^◌, ◌<◌, List, length, subst}
+use Rattle.std.proofs.Common.{ℕ, ◌-◌, ◌^◌, ◌<◌, List, length, subst}
 use Rattle.std.specs.Prelude.{IsErrOf}
 use Rattle.wc_keys.specs.Events.{id_of}
 use Rattle.wc_model.specs.declared.notice.EventKind.TheVariants as kinds
