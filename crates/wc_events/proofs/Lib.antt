@@ -1,9 +1,10 @@
 pub mod DumpLemmas
-pub mod AddedItem
+pub mod EventBytes
 pub mod EventsFormed
 pub mod FlipLemmas
 pub mod Formed
 pub mod HdaMessages
+pub mod LinesTold
 pub mod NickBytes
 pub mod NickLemmas
 pub mod NicksFormed

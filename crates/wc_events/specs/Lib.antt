@@ -1,9 +1,11 @@
 pub mod BufferObjects
 pub mod Dumps
+pub mod EventBytes
 pub mod FlipOrders
 pub mod HdaBytes
 pub mod LentValues
 pub mod LineObjects
+pub mod LinesTold
 pub mod NickBytes
 pub mod NickForms
 pub mod NickObjects

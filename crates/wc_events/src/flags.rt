@@ -1,112 +1,111 @@
 //! What a client is told of lines whose flags differ.
 
-ghost use Rattle.std.specs.Prelude.{◌≡◌, true, IfOk, IfSome};
+ghost use Rattle.std.specs.Prelude.{◌≡◌, OnOk, OnErr, IsErrOf, Some};
+ghost use Rattle.wc_keys.specs.Events.{id_of};
 ghost use Rattle.wc_model.specs.World.{lines_at};
-ghost use Rattle.wc_objects.specs.Forms.{well_formed};
-ghost use Rattle.wc_events.specs.BufferObjects.{flag_item, flag_items, flagged_objects};
-ghost use Rattle.wc_events.specs.BufferObjects.{flags_about};
+ghost use Rattle.wc_model.specs.declared.notice.EventKind.TheVariants as kinds;
+ghost use Rattle.wc_events.specs.BufferObjects.{flag_objects, flagged_objects};
+ghost use Rattle.wc_events.specs.EventBytes.{IsPut, IsTooLong};
 
-use crate::flip_lookup::FlipLookup;
-use crate::line_objects::values_under;
+use crate::flip_lookup::{FlipLookup, has_flipped};
+use crate::front::Front;
+use crate::line_items::ToldLines;
+use crate::line_writer::append_lines;
+use bytes::BytesMut;
 use std::alloc::Global;
-use wc_keys::{KeyList, LINE_PATH};
-use wc_lines::{Lines, PackedLine};
-use wc_model::Notice;
-use wc_objects::{Hda, HdaItem, Object};
-use wc_text::{Handle, Items, NoMemory, Text};
+use wc_keys::{KeyList, LINE_PATH, event_id};
+use wc_lines::Lines;
+use wc_model::{EventKind, Notice};
+use wc_objects::WriteRefused;
+use wc_text::Handle;
 use wc_world::World;
 
-fn flag_item(alloc: Global, buffer: Handle, line: &PackedLine) -> Result<HdaItem, NoMemory>
-    ensures { IfOk result (λ item. item ≡ flag_item buffer line.now) }
-{
-    let mut pointers = Items::with_room(alloc, 1)?;
-    pointers.push(line.content().0)?;
-    let values = values_under(alloc, buffer, line, KeyList::Flags.keys())?;
-    Ok(HdaItem { pointers, values })
-}
-
-fn flag_items(
-    alloc: Global,
+/// Puts the event of the lines of these whose flags differ.
+fn write_flipped(
+    out: &mut BytesMut,
     buffer: Handle,
     flips: &FlipLookup<'_>,
     lines: &Lines,
-) -> Result<Items<HdaItem>, NoMemory>
-    ensures { IfOk result (λ items. items ≡ flag_items buffer flips.now lines.now.lines) }
+) -> Result<(), WriteRefused>
+    ensures ok { OnOk result (IsPut out.old.items out.new.items (id_of kinds.LineDataChanged)
+        (Some (flag_objects buffer flips.now lines.now.lines))) }
+    ensures too_long { IsErrOf result WriteRefused.TooLong →
+        IsTooLong (id_of kinds.LineDataChanged)
+        (Some (flag_objects buffer flips.now lines.now.lines)) }
+    ensures err { OnErr result (out.new.items ≡ out.old.items) }
 {
-    let mut items = Items::new(alloc);
-    for line in lines.iter() {
-        if flips.has(line) {
-            items.push(flag_item(alloc, buffer, line)?)?;
-        }
-    }
-    Ok(items)
+    let front = Front {
+        id: event_id(EventKind::LineDataChanged),
+        path: LINE_PATH,
+        keys: KeyList::Flags.text(),
+    };
+    let told = ToldLines::Flipped { flips, lines };
+    append_lines(out, front, buffer, told, KeyList::Flags.keys())
 }
 
-/// An object of such items.
-fn flags_about(alloc: Global, items: Items<HdaItem>) -> Result<[Object; 1], NoMemory>
-    ensures { IfOk result (λ objects. objects ≡ flags_about items) }
-{
-    let path = Text::from_slice(alloc, LINE_PATH)?;
-    let keys = Text::from_slice(alloc, KeyList::Flags.text())?;
-    Ok([Object::Hda(Hda {
-        path: Some(path),
-        keys: Some(keys),
-        items,
-    })])
-}
-
-/// The object of the lines of these whose flags differ. None where there are no such lines, and then
-/// it takes no memory.
-#[tactic(auto, using(crate::proofs::EventsFormed::flags_formed))]
-fn told_flags(
-    alloc: Global,
+/// The same, and nothing where there are no such lines.
+fn write_told(
+    out: &mut BytesMut,
     buffer: Handle,
     flips: &FlipLookup<'_>,
     lines: &Lines,
-) -> Result<Option<[Object; 1]>, NoMemory>
-    ensures objects { IfOk result
-        (λ told. told ≡ flagged_objects buffer flips.now lines.now.lines) }
-    ensures formed { IfOk result (λ told. IfSome told (λ objects. well_formed objects ≡ true)) }
+) -> Result<(), WriteRefused>
+    ensures ok { OnOk result (IsPut out.old.items out.new.items (id_of kinds.LineDataChanged)
+        (flagged_objects buffer flips.now lines.now.lines)) }
+    ensures too_long { IsErrOf result WriteRefused.TooLong →
+        IsTooLong (id_of kinds.LineDataChanged)
+        (flagged_objects buffer flips.now lines.now.lines) }
+    ensures err { OnErr result (out.new.items ≡ out.old.items) }
 {
-    let items = flag_items(alloc, buffer, flips, lines)?;
-    if items.as_slice().is_empty() {
-        return Ok(None);
+    if !has_flipped(lines, flips) {
+        return Ok(());
     }
-    Ok(Some(flags_about(alloc, items)?))
+    write_flipped(out, buffer, flips, lines)
 }
 
-/// The object of the event of a buffer's lines whose flags differ, which are named by their contents.
-/// None where there are no such lines, and then it takes no memory.
-pub fn flagged_objects(
-    alloc: Global,
+/// Puts the event of a buffer's lines whose flags differ, which are named by their contents, after
+/// the bytes that are in a buffer: an item for each, with its content's pointer. No object of it is
+/// made: the length of the message is found first, and its memory taken at once. Where there are no
+/// such lines nothing is put, and it takes no memory. Where it is refused the bytes stay as they
+/// were.
+///
+/// `TooLong` where the message would be longer than 2^31 - 1 bytes, which is found before memory is
+/// asked for; `NoMemory` where the bytes can't grow by its length.
+pub fn write_flags(
+    out: &mut BytesMut,
     world: &World,
     buffer: Handle,
     flips: &FlipLookup<'_>,
-) -> Result<Option<[Object; 1]>, NoMemory>
-    ensures objects { IfOk result
-        (λ told. told ≡ flagged_objects buffer flips.now (lines_at world.now buffer.0)) }
-    ensures formed { IfOk result (λ told. IfSome told (λ objects. well_formed objects ≡ true)) }
+) -> Result<(), WriteRefused>
+    ensures ok { OnOk result (IsPut out.old.items out.new.items (id_of kinds.LineDataChanged)
+        (flagged_objects buffer flips.now (lines_at world.now buffer.0))) }
+    ensures too_long { IsErrOf result WriteRefused.TooLong →
+        IsTooLong (id_of kinds.LineDataChanged)
+        (flagged_objects buffer flips.now (lines_at world.now buffer.0)) }
+    ensures err { OnErr result (out.new.items ≡ out.old.items) }
 {
     match world.lines(buffer) {
-        Some(lines) => told_flags(alloc, buffer, flips, lines),
-        None => Ok(None),
+        Some(lines) => write_told(out, buffer, flips, lines),
+        None => Ok(()),
     }
 }
 
 /// The same of the buffer and the lines of a notice.
-pub(crate) fn noticed_flags(
+pub(crate) fn write_noticed_flags(
     alloc: Global,
+    out: &mut BytesMut,
     world: &World,
     notice: &Notice,
-) -> Result<Option<[Object; 1]>, NoMemory>
-    ensures objects { IfOk result (λ told. told
-        ≡ flagged_objects notice.now.buffer notice.now.flips
+) -> Result<(), WriteRefused>
+    ensures ok { OnOk result (IsPut out.old.items out.new.items (id_of kinds.LineDataChanged)
+        (flagged_objects notice.now.buffer notice.now.flips
+        (lines_at world.now notice.now.buffer.0))) }
+    ensures too_long { IsErrOf result WriteRefused.TooLong →
+        IsTooLong (id_of kinds.LineDataChanged)
+        (flagged_objects notice.now.buffer notice.now.flips
         (lines_at world.now notice.now.buffer.0)) }
-    ensures formed { IfOk result (λ told. IfSome told (λ objects. well_formed objects ≡ true)) }
+    ensures err { OnErr result (out.new.items ≡ out.old.items) }
 {
-    let Some(lines) = world.lines(notice.buffer) else {
-        return Ok(None);
-    };
     let flips = FlipLookup::new(alloc, &notice.flips);
-    told_flags(alloc, notice.buffer, &flips, lines)
+    write_flags(out, world, notice.buffer, &flips)
 }

@@ -1,6 +1,6 @@
 //! Which lines are among those whose flags differ.
 
-ghost use Rattle.std.specs.Prelude.{◌≡◌, IfOk};
+ghost use Rattle.std.specs.Prelude.{◌≡◌, true, is_some, IfOk, IsTrue};
 ghost use Rattle.std.specs.List.{list_any};
 ghost use Rattle.std.specs.List.Sorted.{IsNonDecreasingBy};
 ghost use Rattle.wc_events.specs.FlipOrders.{IsOrderOf, is_named, number_of};
@@ -51,8 +51,28 @@ impl<'a> FlipLookup<'a> {
     {
         let content = line.content().0;
         match &self.order {
-            Some(order) => is_found(order.as_slice(), content),
+            Some(order) => place_of(order.as_slice(), content).is_some(),
             None => is_named(self.flips.as_slice(), content),
+        }
+    }
+
+    /// The same, which looks at a place of the order first, and moves it behind the content that is
+    /// found. Lines mostly lie in the order of their contents, so that a walk over them has no
+    /// search.
+    #[inline(always)]
+    pub(crate) fn has_at(&self, place: &mut usize, line: &PackedLine) -> bool
+        ensures { result ≡ is_flipped self.now line.now }
+    {
+        let content = line.content().0;
+        let Some(order) = &self.order else {
+            return is_named(self.flips.as_slice(), content);
+        };
+        match place_near(order.as_slice(), *place, content) {
+            Some(found) => {
+                *place = found.saturating_add(1);
+                true
+            }
+            None => false,
         }
     }
 }
@@ -67,15 +87,39 @@ fn order_of(alloc: Global, flips: &[Handle]) -> Result<Vec<Handle>, NoMemory>
     Ok(order)
 }
 
-/// Whether a content is one of these, which are in order.
-fn is_found(order: &[Handle], content: u64) -> bool
+/// Where a content is among these, which are in order.
+fn place_of(order: &[Handle], content: u64) -> Option<usize>
     requires { IsNonDecreasingBy number_of order.now }
-    ensures { result ≡ is_named order.now content }
+    ensures { is_some result ≡ is_named order.now content }
 {
     match order.binary_search_by_key(&content, |flip| flip.0) {
-        Ok(_) => true,
-        Err(_) => false,
+        Ok(place) => Some(place),
+        Err(_) => None,
     }
+}
+
+/// Whether a content is the one at this place.
+#[inline(always)]
+#[tactic(auto, using(crate::proofs::FlipLemmas::at_named))]
+fn is_at(order: &[Handle], place: usize, content: u64) -> bool
+    ensures { IsTrue result → is_named order.now content ≡ true }
+{
+    match order.get(place) {
+        Some(flip) => flip.0 == content,
+        None => false,
+    }
+}
+
+/// The same as `place_of`, with a look at one place first.
+#[inline(always)]
+fn place_near(order: &[Handle], near: usize, content: u64) -> Option<usize>
+    requires { IsNonDecreasingBy number_of order.now }
+    ensures { is_some result ≡ is_named order.now content }
+{
+    if is_at(order, near, content) {
+        return Some(near);
+    }
+    place_of(order, content)
 }
 
 /// The same of these in any order.
@@ -95,7 +139,8 @@ pub fn has_flips(world: &World, flips: &FlipLookup<'_>, buffer: Handle) -> bool
     }
 }
 
-fn has_flipped(lines: &Lines, flips: &FlipLookup<'_>) -> bool
+/// The same of lines.
+pub(crate) fn has_flipped(lines: &Lines, flips: &FlipLookup<'_>) -> bool
     ensures { result ≡ list_any (is_flipped flips.now) lines.now.lines }
 {
     for line in lines.iter() {

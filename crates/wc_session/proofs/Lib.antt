@@ -1,4 +1,5 @@
 pub mod DumpReplies
+pub mod EventLemmas
 pub mod Formed
 pub mod LoginLaws
 pub mod NameLemmas

@@ -11,13 +11,11 @@ ghost use Rattle.wc_session.specs.Event.{IsEventOf, IsPushOf, IsPushKind, push_m
 ghost use Rattle.wc_session.specs.Sending.{Sends};
 ghost use Rattle.wc_events.specs.NickForms.{IsPushText};
 
-use crate::sending::{send, send_nicks};
+use crate::sending::{send, send_event, send_flags, send_nicks};
 use bytes::BytesMut;
 use std::alloc::Global;
 use std::marker::Model;
-use wc_events::{
-    FlipLookup, Nicks, event_id, event_objects, flagged_objects, push_kind, trim_objects,
-};
+use wc_events::{FlipLookup, Nicks, event_id, push_kind, trim_objects};
 use wc_model::{EventKind, Notice, Trim};
 use wc_nickdiff::{Pending, Push};
 use wc_text::{Handle, NoMemory};
@@ -52,9 +50,7 @@ impl BufferEvent {
         ensures { IfOk result (λ event. IsEventOf event world.now notice.now) }
     {
         let mut bytes = BytesMut::new(alloc);
-        if let Some(objects) = event_objects(alloc, world, notice)? {
-            let _fits = send(&mut bytes, event_id(notice.kind), objects.as_slice())?;
-        }
+        send_event(alloc, &mut bytes, world, notice)?;
         Ok(BufferEvent {
             kind: notice.kind,
             buffer: notice.buffer,
@@ -64,7 +60,6 @@ impl BufferEvent {
 
     /// Spells the event of a buffer's lines whose flags differ, in the world after the change, for
     /// however many clients are to be sent it. It has no bytes where there are no such lines.
-    #[tactic(auto, unfolding(wc_events::specs::BufferObjects::objects_of))]
     pub fn of_flags(
         alloc: Global,
         world: &World,
@@ -74,13 +69,10 @@ impl BufferEvent {
         ensures { IfOk result (λ event.
             IsEventOf event world.now (flag_part flips.now buffer.0)) }
     {
-        let kind = EventKind::LineDataChanged;
         let mut bytes = BytesMut::new(alloc);
-        if let Some(objects) = flagged_objects(alloc, world, buffer, flips)? {
-            let _fits = send(&mut bytes, event_id(kind), objects.as_slice())?;
-        }
+        send_flags(&mut bytes, world, buffer, flips)?;
         Ok(BufferEvent {
-            kind,
+            kind: EventKind::LineDataChanged,
             buffer,
             bytes,
         })

@@ -1,15 +1,19 @@
-ghost use Rattle.std.specs.Prelude.{◌≡◌, true, IfOk, OnErr, is_some};
+ghost use Rattle.std.specs.Prelude.{◌≡◌, true, IfOk, OnOk, OnErr, is_some};
 ghost use Rattle.std.specs.Str.{IsUtf8};
 ghost use Rattle.wc_events.specs.Nicks.{nicks_objects};
+ghost use Rattle.wc_model.specs.Parts.{flag_part};
 ghost use Rattle.wc_objects.specs.Forms.{well_formed};
+ghost use Rattle.wc_session.specs.Event.{event_messages};
 ghost use Rattle.wc_session.specs.Sending.{message, fits, fitting, reply, null_hdata, Sends};
 ghost use Rattle.wc_session.specs.Sending.{is_owed};
 
 use bytes::BytesMut;
 use std::alloc::Global;
-use wc_events::{Nicks, write_nicks};
+use wc_events::{FlipLookup, Nicks, write_event, write_flags, write_nicks};
+use wc_model::Notice;
 use wc_objects::{Hda, Object, WriteRefused, append_message};
-use wc_text::{Items, NoMemory};
+use wc_text::{Handle, Items, NoMemory};
+use wc_world::World;
 
 /// Puts a message after the unsent bytes, and answers whether it fits in a message.
 pub fn send(out: &mut BytesMut, id: &[u8], objects: &[Object]) -> Result<bool, NoMemory>
@@ -39,6 +43,44 @@ pub fn send_nicks(out: &mut BytesMut, id: &[u8], nicks: Nicks<'_>) -> Result<boo
     match write_nicks(out, id, nicks) {
         Ok(()) => Ok(true),
         Err(WriteRefused::TooLong) => Ok(false),
+        Err(WriteRefused::NoMemory) => Err(NoMemory),
+    }
+}
+
+/// Puts the event of a notice, in the world after the change, after the unsent bytes. Nothing is put
+/// where it is too long for a message, or nothing is told.
+pub fn send_event(
+    alloc: Global,
+    out: &mut BytesMut,
+    world: &World,
+    notice: &Notice,
+) -> Result<(), NoMemory>
+    requires { IsUtf8 notice.now.full_name }
+    ensures ok { OnOk result (Sends out.old.items out.new.items
+        (event_messages world.now notice.now)) }
+    ensures err { OnErr result (out.new.items ≡ out.old.items) }
+{
+    match write_event(alloc, out, world, notice) {
+        Ok(()) => Ok(()),
+        Err(WriteRefused::TooLong) => Ok(()),
+        Err(WriteRefused::NoMemory) => Err(NoMemory),
+    }
+}
+
+/// The same of the event of a buffer's lines whose flags differ.
+pub fn send_flags(
+    out: &mut BytesMut,
+    world: &World,
+    buffer: Handle,
+    flips: &FlipLookup<'_>,
+) -> Result<(), NoMemory>
+    ensures ok { OnOk result (Sends out.old.items out.new.items
+        (event_messages world.now (flag_part flips.now buffer.0))) }
+    ensures err { OnErr result (out.new.items ≡ out.old.items) }
+{
+    match write_flags(out, world, buffer, flips) {
+        Ok(()) => Ok(()),
+        Err(WriteRefused::TooLong) => Ok(()),
         Err(WriteRefused::NoMemory) => Err(NoMemory),
     }
 }
