@@ -6,6 +6,7 @@ pub mod Formed
 pub mod HdaMessages
 pub mod NickBytes
 pub mod NickLemmas
+pub mod NickWalks
 pub mod NicksFormed
 pub mod NickWritten
 pub mod PushTexts

@@ -7,6 +7,5 @@ pub mod LineObjects
 pub mod NickBytes
 pub mod NickForms
 pub mod NickObjects
-pub mod NickRoom
 pub mod Nicks
 pub mod ValueBytes

@@ -13,7 +13,6 @@ mod line_bytes;
 mod line_objects;
 mod nick_bytes;
 mod nick_items;
-mod nick_rooms;
 mod nick_writer;
 mod nicks;
 pub mod parts;
