@@ -6,7 +6,7 @@ ghost use Rattle.wc_objects.specs.Forms.{well_formed};
 ghost use Rattle.wc_events.specs.BufferObjects.{flag_item, flag_items, flagged_objects};
 ghost use Rattle.wc_events.specs.BufferObjects.{flags_about};
 
-use crate::flip_lookup::{FlipLookup, has_flipped};
+use crate::flip_lookup::FlipLookup;
 use crate::line_objects::values_under;
 use std::alloc::Global;
 use wc_keys::{KeyList, LINE_PATH};
@@ -33,8 +33,7 @@ fn flag_items(
 ) -> Result<Items<HdaItem>, NoMemory>
     ensures { IfOk result (λ items. items ≡ flag_items buffer flips.now lines.now.lines) }
 {
-    let most = flips.len().min(lines.len() as usize);
-    let mut items = Items::with_room(alloc, most)?;
+    let mut items = Items::new(alloc);
     for line in lines.iter() {
         if flips.has(line) {
             items.push(flag_item(alloc, buffer, line)?)?;
@@ -69,10 +68,10 @@ fn told_flags(
         (λ told. told ≡ flagged_objects buffer flips.now lines.now.lines) }
     ensures formed { IfOk result (λ told. IfSome told (λ objects. well_formed objects ≡ true)) }
 {
-    if !has_flipped(lines, flips) {
+    let items = flag_items(alloc, buffer, flips, lines)?;
+    if items.as_slice().is_empty() {
         return Ok(None);
     }
-    let items = flag_items(alloc, buffer, flips, lines)?;
     Ok(Some(flags_about(alloc, items)?))
 }
 

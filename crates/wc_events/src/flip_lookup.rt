@@ -45,11 +45,6 @@ impl<'a> FlipLookup<'a> {
         FlipLookup { flips, order }
     }
 
-    /// How many lines these are at most.
-    pub(crate) fn len(&self) -> usize {
-        self.flips.as_slice().len()
-    }
-
     /// Whether the flag of a line differs. It takes no memory.
     pub fn has(&self, line: &PackedLine) -> bool
         ensures { result ≡ is_flipped self.now line.now }
@@ -100,8 +95,7 @@ pub fn has_flips(world: &World, flips: &FlipLookup<'_>, buffer: Handle) -> bool
     }
 }
 
-/// The same of lines.
-pub(crate) fn has_flipped(lines: &Lines, flips: &FlipLookup<'_>) -> bool
+fn has_flipped(lines: &Lines, flips: &FlipLookup<'_>) -> bool
     ensures { result ≡ list_any (is_flipped flips.now) lines.now.lines }
 {
     for line in lines.iter() {
