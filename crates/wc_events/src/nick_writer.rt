@@ -88,6 +88,7 @@ fn write_whole(out: &mut BytesMut, front: Front<'_>, nicks: Nicks<'_>) -> Result
 }
 
 /// Puts the message with this front after the bytes that are in a buffer.
+#[tactic(auto, using(crate::proofs::NickWritten::cut_back))]
 fn append(out: &mut BytesMut, front: Front<'_>, nicks: Nicks<'_>) -> Result<(), WriteRefused>
     ensures ok { OnOk result (out.new.items ≡ out.old.items
         ++ hda_message (front_part front.entry) (nicks_items nicks.entry)) }
