@@ -1,5 +1,5 @@
 -- The message that is written is that of the objects, and its length is that which was found.
-use Rattle.std.proofs.Common.{◌≡◌, ℕ, ◌+◌, ◌-◌, ◌^◌, ◌<◌, ◌≤◌, List, ◌++◌, length, take, drop, refl, sym, ap, ◌∙◌, append_assoc, length-append, take_at, drop_at, arith}
+use Rattle.std.proofs.Common.{◌≡◌, ℕ, ◌+◌, ◌-◌, ◌^◌, ◌<◌, ◌≤◌, List, ◌++◌, length, take, drop, sym, ap, ◌∙◌, append_assoc, length-append, take_at, drop_at, arith}
 use Rattle.bytes.specs.Filled.{Filled}
 use Rattle.wc_objects.specs.declared.object.HdaItem.{HdaItem}
 use Rattle.wc_objects.specs.declared.write.WriteRefused.{WriteRefused}

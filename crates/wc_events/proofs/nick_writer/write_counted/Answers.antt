@@ -1,4 +1,4 @@
-use Rattle.std.proofs.Common.{refl, arith}
+use Rattle.std.proofs.Common.{refl}
 use Rattle.std.proofs.lemmas.Result.{err_from_is_err_and}
 use Rattle.wc_events.specs.HdaBytes.{front_part}
 use Rattle.wc_events.specs.Nicks.{nicks_items}
