@@ -7,6 +7,7 @@ pub mod HdaMessages
 pub mod LinesTold
 pub mod NickBytes
 pub mod NickLemmas
+pub mod NickWalks
 pub mod NicksFormed
 pub mod NickWritten
 pub mod PushTexts

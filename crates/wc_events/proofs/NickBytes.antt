@@ -123,13 +123,13 @@ counts all first more is = ap length is ∙ length-append first more
 pub after_none : (left : Left) → IsAfter left left []
 after_none left = record { room = omega arith; counted = omega arith; few = omega arith }
 
-then_over : (left mid : Left) (all first more : List HdaItem) → all ≡ first ++ more → IsAfter left mid first → IsOver mid more → IsOver left all
+pub then_over : (left mid : Left) (all first more : List HdaItem) → all ≡ first ++ more → IsAfter left mid first → IsOver mid more → IsOver left all
 then_over left mid all first more is one over = omega (arith, lengths all first more is, one.room, over)
 
 pub first_over : (left : Left) (all first more : List HdaItem) → all ≡ first ++ more → IsOver left first → IsOver left all
 first_over left all first more is over = omega (arith, lengths all first more is, over)
 
-then_after : (left mid rest : Left) (all first more : List HdaItem) → all ≡ first ++ more → IsAfter left mid first → IsAfter mid rest more → IsAfter left rest all
+pub then_after : (left mid rest : Left) (all first more : List HdaItem) → all ≡ first ++ more → IsAfter left mid first → IsAfter mid rest more → IsAfter left rest all
 then_after left mid rest all first more is one two = record {
   room = omega (arith, lengths all first more is, one.room, two.room);
   counted = omega (arith, counts all first more is, one.counted, two.counted);

@@ -1,5 +1,5 @@
 -- What a client is told of buffers: the event of each notice, and the dump of all buffers.
-use Rattle.std.specs.Prelude.{ℕ, ◌+◌, ◌-◌, ℤ, pos, Bool, false, List, [], ◌∷◌}
+use Rattle.std.specs.Prelude.{ℕ, ◌+◌, ℤ, pos, Bool, false, List, [], ◌∷◌}
 use Rattle.std.specs.Prelude.{◌++◌, map, filter, Option, Some, None, option_map, unwrap_or}
 use Rattle.std.specs.Prelude.{if◌then◌else◌, codes, bytes_eq}
 use Rattle.std.specs.List.{filter_map, list_any}

@@ -9,6 +9,5 @@ pub mod LinesTold
 pub mod NickBytes
 pub mod NickForms
 pub mod NickObjects
-pub mod NickRoom
 pub mod Nicks
 pub mod ValueBytes

@@ -15,7 +15,6 @@ mod line_objects;
 mod line_writer;
 mod nick_bytes;
 mod nick_items;
-mod nick_rooms;
 mod nick_writer;
 mod nicks;
 pub mod parts;

@@ -1,4 +1,4 @@
-use Rattle.std.proofs.Common.{◌≡◌, ℕ, ◌+◌, ◌-◌, ◌^◌, ◌<◌, ◌≤◌, ◌++◌, List, length, subst}
+use Rattle.std.proofs.Common.{◌≡◌, ℕ, ◌-◌, ◌^◌, ◌<◌, ◌≤◌, ◌++◌, List, length, subst}
 use Rattle.std.specs.Prelude.{OnOk, IsErrOf}
 use Rattle.wc_objects.specs.declared.write.WriteRefused.{WriteRefused}
 use Rattle.wc_events.proofs.NickWritten.{nicks_message_by}
